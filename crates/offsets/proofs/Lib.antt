@@ -1,0 +1,10 @@
+pub mod Powers
+pub mod Digits
+pub mod Members
+pub mod Mapped
+pub mod Words
+pub mod Shifts
+pub mod Rotation
+pub mod Turns
+pub mod Counts
+pub mod Samples
