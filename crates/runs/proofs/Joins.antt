@@ -11,6 +11,7 @@ use native.Mathlib.Omega.{arith}
 use Prim.Native.Nat.{ℕ, zero, suc, _+_, _-_, _≤_, _<_, max}
 use Rattle.runs.specs.Carried.{row, iterate, joinBelow, joinFrom}
 use Rattle.runs.specs.Figures.{Time, longer, sum}
+use Rattle.runs.specs.Parts.{added}
 use Rattle.runs.proofs.Cases.{split, either}
 
 pub record Joining {X : Type 0} (empty : X) (join : X → X → X) : Type 0 where
@@ -29,6 +30,7 @@ longer-joins = record { assoc = go; left = λ v. refl; right = stop }
     go (some t) none w = refl
     go (some t) (some u) none = refl
     go (some t) (some u) (some v) = ap some (omega arith)
+
     stop : (v : Time) → longer v none ≡ v
     stop none = refl
     stop (some t) = refl
@@ -39,6 +41,7 @@ or-joins = record { assoc = go; left = λ v. refl; right = stop }
     go : (u v w : Bool) → ((u || v) || w) ≡ (u || (v || w))
     go true v w = refl
     go false v w = refl
+
     stop : (v : Bool) → (v || false) ≡ v
     stop true = refl
     stop false = refl
@@ -99,28 +102,24 @@ module _ {X : Type 0} (empty : X) (join : X → X → X) (law : Joining empty jo
       let parts = below-split lo (suc hi - lo) g in
       let first : joinBelow empty join lo g ≡ empty = below-empty lo g (λ i m. ap (λ (t : Bool). cond t (f i) empty) (lt-leb lo i m)) in
       let rest : joinBelow empty join (suc hi - lo) (λ i. g (lo + i)) ≡ joinBelow empty join (suc hi - lo) (λ i. f (lo + i)) =
-          below-same (suc hi - lo) _ _ (λ i m. ap (λ (t : Bool). cond t (f (lo + i)) empty) (le-leb lo (lo + i) (omega arith))) in
+      below-same (suc hi - lo) _ _ (λ i m. ap (λ (t : Bool). cond t (f (lo + i)) empty) (le-leb lo (lo + i) (omega arith))) in
       ap (λ (n : ℕ). joinBelow empty join n g) (sym e) ∙ parts ∙ ap₂ join first rest ∙ law .left _)
       (λ l.
       let z : suc hi - lo ≡ 0 = omega arith in
       below-empty (suc hi) _ (λ i m. ap (λ (t : Bool). cond t (f i) empty) (lt-leb lo i (omega arith)))
       ∙ sym (ap (λ (n : ℕ). joinBelow empty join n (λ i. f (lo + i))) z ∙ none-below (λ i. f (lo + i))))
 
-  -- What the next `left` iterations add at a place, `done` being done: the values after each that is a permitted count.
-  unfoldable pub added : (List X → List X) → ℕ → ℕ → ℕ → List X → ℕ → X
-  added F least done left C o = joinBelow empty join left (λ i. cond (leb least (done + suc i)) (getD (iterate F (suc i) C) o empty) empty)
-
   module _ (F : List X → List X) (least : ℕ) where
-    pub added-none : (done : ℕ) (C : List X) (o : ℕ) → added F least done 0 C o ≡ empty
+    pub added-none : (done : ℕ) (C : List X) (o : ℕ) → added empty join F least done 0 C o ≡ empty
     unfolding added joinBelow
     added-none done C o = refl
 
-    pub added-one : (done : ℕ) (C : List X) (o : ℕ) → added F least done 1 C o ≡ cond (leb least (done + 1)) (getD (F C) o empty) empty
+    pub added-one : (done : ℕ) (C : List X) (o : ℕ) → added empty join F least done 1 C o ≡ cond (leb least (done + 1)) (getD (F C) o empty) empty
     unfolding added iterate
     added-one done C o = below-one _
 
     pub added-split : (done h k : ℕ) (C : List X) (o : ℕ)
-        → added F least done (h + k) C o ≡ join (added F least done h C o) (added F least (done + h) k (iterate F h C) o)
+        → added empty join F least done (h + k) C o ≡ join (added empty join F least done h C o) (added empty join F least (done + h) k (iterate F h C) o)
     unfolding added
     added-split done h k C o =
         below-split h k _
@@ -132,17 +131,17 @@ module _ {X : Type 0} (empty : X) (join : X → X → X) (law : Joining empty jo
 
     -- all iterations of a loop: the entry table where 0 is permitted, and what each iteration adds
     pub added-all : (greatest : ℕ) (T : List X) (o : ℕ)
-        → join (cond (leb least 0) (getD T o empty) empty) (added F least 0 greatest T o)
-          ≡ joinFrom empty join least greatest (λ k. getD (iterate F k T) o empty)
+        → join (cond (leb least 0) (getD T o empty) empty) (added empty join F least 0 greatest T o)
+        ≡ joinFrom empty join least greatest (λ k. getD (iterate F k T) o empty)
     unfolding added iterate
     added-all greatest T o =
         let g : ℕ → X = λ k. cond (leb least k) (getD (iterate F k T) o empty) empty in
         let one : joinBelow empty join 1 g ≡ g 0 = below-one g in
         let e : 1 + greatest ≡ suc greatest = omega arith in
         let rest : joinBelow empty join greatest (λ i. cond (leb least (0 + suc i)) (getD (iterate F (suc i) T) o empty) empty)
-            ≡ joinBelow empty join greatest (λ i. g (1 + i)) =
-            below-same greatest _ _ (λ i m. let n : 0 + suc i ≡ 1 + i = omega arith in let n' : suc i ≡ 1 + i = omega arith in
-            ap₂ (λ (a b : ℕ). cond (leb least a) (getD (iterate F b T) o empty) empty) n n') in
+        ≡ joinBelow empty join greatest (λ i. g (1 + i)) =
+        below-same greatest _ _ (λ i m. let n : 0 + suc i ≡ 1 + i = omega arith in let n' : suc i ≡ 1 + i = omega arith in
+        ap₂ (λ (a b : ℕ). cond (leb least a) (getD (iterate F b T) o empty) empty) n n') in
         sym (ap₂ join one (sym rest)) ∙ sym (below-split 1 greatest g) ∙ ap (λ (n : ℕ). joinBelow empty join n g) e ∙ from-filter least greatest _
 
 -- ---- sums

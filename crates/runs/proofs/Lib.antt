@@ -14,3 +14,4 @@ pub mod SomeRun
 pub mod Whole
 mod Worked
 pub mod Joins
+pub mod Loops

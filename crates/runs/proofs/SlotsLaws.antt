@@ -44,17 +44,19 @@ module _ (v : Slots) (ok : Sound v) where
     case-before : o < first v → IsWait (equal v) e o (first v - o)
     unfolding equal
     case-before h =
-        let z : o + (first v - o) ≡ first v = omega arith in
-        ( rw (z, this (first v) (omega (arith, slot-in, ok .slot-pos))) (may-in v e (first v) (omega arith) (omega arith)),
-        λ i l. rw (this (o + i) (omega (arith, slot-in, ok .slot-pos))) (may-before v e (o + i) (omega arith)))
+        let z : o + (first v - o) ≡ first v = omega arith in (
+          rw (z, this (first v) (omega (arith, slot-in, ok .slot-pos))) (may-in v e (first v) (omega arith) (omega arith)),
+          λ i l. rw (this (o + i) (omega (arith, slot-in, ok .slot-pos))) (may-before v e (o + i) (omega arith)),
+        )
 
     case-after : first v ≤ o → first v + v .slot < o + e → IsWait (equal v) e o (first v + periodOf v - o)
     unfolding equal
-    case-after h k =
-        ( rw (over (o + (first v + periodOf v - o)) (first v) (omega arith) (omega (arith, slot-in, ok .slot-pos))) (may-in v e (first v) (omega arith) (omega arith)),
-        λ i l. split (periodOf v) (o + i)
-        (λ m. rw (over (o + i) (o + i - periodOf v) (omega arith) (omega (arith, slot-in, ok .slot-pos))) (may-before v e (o + i - periodOf v) (omega arith)))
-        (λ m. rw (this (o + i) m) (may-after v e (o + i) (omega arith) (omega arith))))
+    case-after h k = (
+      rw (over (o + (first v + periodOf v - o)) (first v) (omega arith) (omega (arith, slot-in, ok .slot-pos))) (may-in v e (first v) (omega arith) (omega arith)),
+      λ i l. split (periodOf v) (o + i)
+          (λ m. rw (over (o + i) (o + i - periodOf v) (omega arith) (omega (arith, slot-in, ok .slot-pos))) (may-before v e (o + i - periodOf v) (omega arith)))
+          (λ m. rw (this (o + i) m) (may-after v e (o + i) (omega arith) (omega arith))),
+    )
 
     pub equation7-is : IsWait (equal v) e o (equation7 v e o) × (equation7 v e o < periodOf v)
     unfolding equation7
@@ -78,7 +80,8 @@ module _ (v : Slots) (ok : Sound v) where
   unfolding equal
   equal-lawful = record {
     period-pos = omega (arith, slot-in, ok .slot-pos);
-    least = λ e o pos le lt. equation7-is e pos le o lt .0 }
+    least = λ e o pos le lt. equation7-is e pos le o lt .0;
+  }
 
   module _ (e : ℕ) (pos : 1 ≤ e) (le : e ≤ v .slot) (o : ℕ) (lt : o < periodOf v) where
     pub wait-equation7 : equal v .wait e o ≡ equation7 v e o

@@ -1,0 +1,6 @@
+pub mod OneMore
+pub mod Whole
+pub mod Entries
+pub mod Starting
+pub mod Answering
+pub mod Promises

@@ -1,0 +1,23 @@
+-- The walk of the entry from the listed starts leaves the exit times.
+use borrow.Author.Needs.{needs}
+use Rattle.figures.proofs.Starting.{start-ready, times-ended}
+use Rattle.figures.proofs.exit_times.Statement.{statement}
+use Rattle.figures.proofs.exit_times.Tie as tie
+
+start-times-requires : tie.Need-start-times-requires
+start-times-requires c κs = c .before .pre .listing
+
+walk-requires : tie.Need-walk-requires
+walk-requires c κs =
+    let s = c .before .before in
+    let a = s .args in
+    start-ready (a .image .now) (a .k) (a .places .now) (s .pre) (c .start-times .result) (c .start-times .ensures)
+
+returns : tie.Need-returns
+returns c =
+    let s = c .before .before .before in
+    let a = s .args in
+    times-ended (a .image .now) (a .k) (a .places .now) (s .pre) (c .before .start-times .result) (c .walk .result) (c .before .start-times .ensures) (c .walk .ensures)
+
+pub exit-times-spec : {M : Type 1} → statement M
+exit-times-spec = tie.close (tie.spec start-times-requires walk-requires returns)

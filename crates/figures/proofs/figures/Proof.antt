@@ -1,0 +1,58 @@
+-- Judging's refusals are passed on; for an accepted image the answer is `given`'s. The three parts follow by the laws of Promises.
+use borrow.Author.Needs.{needs}
+use mathlib.Core.Path.{_≡_, sym, _∙_}
+use Rattle.figures.proofs.Promises.{answerable, refused-equal, refused-demand3, refused-demand2, given-equal, given-demand3, given-demand2}
+use Rattle.figures.proofs.figures.Statement.{statement}
+use Rattle.figures.proofs.figures.Tie as tie
+
+judge-requires : tie.Need-judge-requires
+judge-requires c κs = search needs
+
+enum-known-verdict : tie.Need-enum-known-verdict
+enum-known-verdict c = c .match .keys1
+
+enum-known-verdict-2 : tie.Need-enum-known-verdict-2
+enum-known-verdict-2 c = c .match .keys2
+
+given-requires : tie.Need-given-requires
+given-requires c κs =
+    let a = c .before .before .before .before .before .before .before .before .before .args in
+    let j = c .before .before .before .before .before .before .judge in
+    answerable (a .image .now) (j .result .places) (j .result .verdict) (c .before .before .before .verdict2 .given .0 .0) (j .ensures) (c .before .before .before .verdict2 .given .1)
+
+returns : tie.Need-returns
+returns c =
+    let a = c .before .before .before .before .before .before .before .args in
+    let j = c .before .before .before .before .judge in
+    let e = sym (j .ensures .is) ∙ c .before .verdict .given .1 in
+    let r = c .before .verdict .given .0 in (
+      refused-equal (a .image .now) (a .table .now) (r .0) (r .1 .0) e,
+      (
+        refused-demand3 (a .image .now) (a .table .now) (r .0) (r .1 .0) e,
+        refused-demand2 (a .image .now) (a .table .now) (r .0) (r .1 .0) e,
+      ),
+    )
+
+same-length : tie.Need-same-length
+same-length c = search needs
+
+returns-2 : tie.Need-returns-2
+returns-2 c =
+    let a = c .before .before .before .before .before .before .before .before .before .before .before .before .args in
+    let j = c .before .before .before .before .before .before .before .before .before .judge in
+    let k = c .before .before .before .before .before .before .verdict2 .given .0 .0 in
+    let v = c .before .before .before .before .before .before .verdict2 .given .1 in
+    let e = sym (j .ensures .is) ∙ v in
+    let g = c .before .before .given in
+    let sound = j .ensures .sound k v in (
+      given-equal (a .image .now) (a .table .now) k (j .result .places) e sound (g .result) (g .last .1 .1 .1 .0) (g .ensures),
+      (
+        given-demand3 (a .image .now) (a .table .now) k (j .result .places) e sound (g .result) (g .last .1 .1 .1 .0) (g .ensures),
+        given-demand2 (a .image .now) (a .table .now) k (j .result .places) e sound (g .result) (g .last .1 .1 .1 .0) (g .ensures),
+      ),
+    )
+
+pub figures-spec : {M : Type 1} → statement M
+figures-spec =
+    tie.close
+    (tie.spec judge-requires enum-known-verdict enum-known-verdict-2 given-requires returns same-length returns-2)

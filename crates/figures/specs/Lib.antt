@@ -1,0 +1,4 @@
+pub mod Answers
+pub mod WholeRuns
+pub mod Promise
+pub mod Steps

@@ -1,0 +1,152 @@
+// figures: THE entry. An image and a lent table in, an answer out; demands 1, 2 and 3 are its contract.
+//
+// `figures` asks nothing of its caller and promises, for every image and every table:
+//   equality  the answer and the table at exit equal definitions over the image's bytes and the table at entry (specs/Answers.antt):
+//             a refusal's number and place, the table unchanged; or both figures, the exit count and the filled table;
+//   demand3   one statement about all whole runs of an accepted image (specs/WholeRuns.antt);
+//   demand2   the published figure is that of Algorithms 1 to 3, each access waiting by Equation 7.
+// specs/Promise.antt has the three parts; what a run, a wait and both methods are is in crates/runs/specs.
+ghost use mathlib.Core.Path.{_≡_};
+ghost use mathlib.Core.List.{_++_};
+ghost use Prim.Native.Nat.{_≤_};
+ghost use lib.ListN.{take, drop, length};
+ghost use Rattle.runs.specs.Figures.{published};
+ghost use Rattle.image.specs.Nodes.{taskOf};
+ghost use Rattle.figures.specs.Promise.{Equal, Demand3, Demand2};
+ghost use Rattle.figures.specs.Steps.{Listing, Answerable, Answered, Started, StartedSet, Ended, Holding, holding};
+use bus::Bus;
+use image::Refusal;
+use image::Task;
+use image::Verdict;
+use offsets::Set;
+
+// Both figures and the count of exit offsets.
+pub struct Totals {
+    pub tight: u64,
+    pub published: u64,
+    pub exits: u64,
+}
+
+// The figures, or why there are none and at which place.
+pub enum Answer {
+    Given(Totals),
+    Refused(Refusal, usize),
+}
+
+// The time 0 at each of the n listed starts.
+fn start_times(image: &[u8], b: Bus, n: usize) -> [u64; 256]
+    requires { ⌜ Listing (now image) b n ⌝ }
+    ensures { λ r. ⌜ Started (now (image .entry)) b r ⌝ }
+{
+    let mut out = [18446744073709551615u64; 256];
+    let mut i = 0;
+    while i < n {
+        let o = image::read::byte(image, 9 + i);
+        out[o] = 0;
+        i += 1;
+    }
+    out
+}
+
+// The set of the n listed starts.
+fn start_set(image: &[u8], b: Bus, n: usize) -> Set
+    requires { ⌜ Listing (now image) b n ⌝ }
+    ensures { λ r. ⌜ StartedSet (now (image .entry)) b r ⌝ }
+{
+    let mut out = offsets::empty();
+    let mut i = 0;
+    while i < n {
+        let o = image::read::byte(image, 9 + i);
+        out = offsets::join(out, offsets::single(o as u64));
+        i += 1;
+    }
+    out
+}
+
+// The longest time at each exit offset.
+fn exit_times(image: &[u8], places: &[usize; 256], k: Task) -> [u64; 256]
+    requires { ⌜ Answerable (now image) k (now places) ⌝ }
+    ensures { λ r. ⌜ Ended (now (image .entry)) k r ⌝ }
+{
+    let start = start_times(image, k.bus, k.starts);
+    tight::walk(image, places, k, k.entry, start)
+}
+
+// The published figure.
+fn published_cost(image: &[u8], places: &[usize; 256], k: Task) -> u64
+    requires { ⌜ Answerable (now image) k (now places) ⌝ }
+    ensures { λ r. ⌜ r ≡ published (taskOf (now (image .entry)) k) ⌝ }
+{
+    let start = start_set(image, k.bus, k.starts);
+    let all = published::walk(image, places, k, k.entry, start);
+    all.cost
+}
+
+// The offsets below n whose place holds a time.
+fn exit_set(t: [u64; 256], n: usize) -> Set
+    requires { ⌜ n ≤ 256 ⌝ }
+    ensures { λ r. ⌜ Holding t n r ⌝ }
+{
+    let mut out = offsets::empty();
+    let mut o: usize = 0;
+    while o < n {
+        if t[o] != 18446744073709551615 {
+            out = offsets::join(out, offsets::single(o as u64));
+        }
+        o += 1;
+    }
+    out
+}
+
+// How many places below n hold a time: ones counted over the set's words.
+fn exit_count(t: [u64; 256], n: usize) -> u64
+    requires { ⌜ n ≤ 256 ⌝ }
+    ensures { λ r. ⌜ r ≡ holding t n ⌝ }
+{
+    offsets::count(exit_set(t, n)) as u64
+}
+
+// The first n places of the table take those of t; later places keep their contents.
+fn fill(table: &mut [u64], t: [u64; 256], n: usize)
+    requires { ⌜ (n ≤ 256) × (n ≤ length (now table)) ⌝ }
+    ensures { λ _. ⌜ now (table .exit) ≡ take n t ++ drop n (now (table .entry)) ⌝ }
+{
+    let mut o: usize = 0;
+    while o < n {
+        table[o] = t[o];
+        o += 1;
+    }
+}
+
+// The answer for an accepted image: 10, or the figures.
+fn given(image: &[u8], places: &[usize; 256], k: Task, table: &mut [u64]) -> Answer
+    requires { ⌜ Answerable (now image) k (now places) ⌝ }
+    ensures { λ r. ⌜ Answered (now (image .entry)) k (now (table .entry)) r (now (table .exit)) ⌝ }
+{
+    let period = bus::period(k.bus);
+    if table.len() < period {
+        return Answer::Refused(Refusal::Table, image.len());
+    }
+    let times = exit_times(image, places, k);
+    fill(table, times, period);
+    Answer::Given(Totals {
+        tight: times::longest(times, period),
+        published: published_cost(image, places, k),
+        exits: exit_count(times, period),
+    })
+}
+
+// Both figures, the exit count and the table of exit offsets of a task image; or the number under which it is refused.
+pub fn figures(image: &[u8], table: &mut [u64]) -> Answer
+    ensures equality { λ r. ⌜ Equal (now (image .entry)) (now (table .entry)) r (now (table .exit)) ⌝ }
+    ensures demand3 { λ r. ⌜ Demand3 (now (image .entry)) r (now (table .exit)) ⌝ }
+    ensures demand2 { λ r. ⌜ Demand2 (now (image .entry)) r ⌝ }
+{
+    let j = image::judge(image);
+    let places = j.places;
+    let verdict = j.verdict;
+    match verdict {
+        Verdict::Refused(r, place) => Answer::Refused(r, place),
+        Verdict::Accepted(k) => given(image, &places, k, table),
+    }
+}

@@ -1,0 +1,131 @@
+-- A good field keeps the rules of its row: they are what its tests say, row by row.
+use mathlib.Core.Path.{_≡_, sym, subst}
+use mathlib.Core.Logic.{⊎-elim}
+use mathlib.Core.Bool.{true, _&&_}
+use mathlib.Core.List.{List}
+use Prim.Native.Nat.{ℕ, _+_, _-_, _*_, _/_, _%_, _≤_}
+use native.Mathlib.Omega.{arith}
+use lib.ListN.{length}
+use lib.Dec.{leb, ltb, eqb}
+use borrow.Author.Tests.{ltb-true, leb-true, eqb-true, ne-eqb}
+use Rattle.image.specs.Bytes.{byteAt, wordAt}
+use Rattle.image.specs.Fields.{within, tagOk, lengthOk, busOk, plainOk, blockOk, startsOk, loopOk, valueOk, below, childrenOk, busOf}
+use Rattle.image.specs.Nodes.{fieldAt, nodeFrom, nodeOf}
+use Rattle.image.specs.Conditions.{tagAt, lengthAt, bodyAt, GoodField}
+use Rattle.image.specs.Promise.{Starts, Fine}
+use Rattle.bus.specs.Waits.{Ranges}
+use Rattle.bus.specs.declared.Bus.{Bus}
+use Rattle.image.proofs.Numbers.{eq-or-ne, both, is-within}
+use Rattle.image.proofs.Lists.{names-below, start-range, starts-ascend}
+
+by-tag : (P : ℕ → Type 0) (t : ℕ) → 3 ≤ t → t ≤ 7 → P 3 → P 4 → P 5 → P 6 → P 7 → P t
+by-tag P t lo hi p3 p4 p5 p6 p7 =
+    ⊎-elim (λ e. subst P (sym e) p3)
+    (λ n3. ⊎-elim (λ e. subst P (sym e) p4)
+    (λ n4. ⊎-elim (λ e. subst P (sym e) p5)
+    (λ n5. ⊎-elim (λ e. subst P (sym e) p6)
+    (λ n6. let e : t ≡ 7 = omega arith in subst P (sym e) p7)
+    (eq-or-ne t 6)) (eq-or-ne t 5)) (eq-or-ne t 4)) (eq-or-ne t 3)
+
+-- rows 3 to 7, for the node `own` whose body of n bytes stands at b
+module _ (s : List ℕ) (b n own : ℕ) (inside : b + n ≤ length s) where
+  abbrev Keeps : ℕ → Type 0
+  Keeps t = lengthOk t n ≡ true → valueOk s t b n ≡ true → childrenOk s t b n (own + 2) ≡ true → Fine s own (nodeFrom s t b n)
+
+  plain-fine : Keeps 3
+  unfolding valueOk plainOk nodeFrom Fine
+  plain-fine l v c =
+      let p = both (leb (wordAt s (b + 2)) 65535) (leb (wordAt s b) (wordAt s (b + 2)) && leb (wordAt s (b + 2) - wordAt s b) 63) v in
+      let q = both (leb (wordAt s b) (wordAt s (b + 2))) (leb (wordAt s (b + 2) - wordAt s b) 63) (p .1) in
+      (leb-true _ _ (q .0), leb-true _ _ (p .0), leb-true _ _ (q .1))
+
+  block-fine : Keeps 4
+  unfolding valueOk blockOk nodeFrom Fine
+  block-fine l v c =
+      let p = both (within 1 2 (byteAt s b)) (leb 1 (byteAt s (b + 1)) && (leb (byteAt s (b + 1)) (byteAt s (b + 2)) && leb (byteAt s (b + 2)) (byteAt s 4))) v in
+      let q = both (leb 1 (byteAt s (b + 1))) (leb (byteAt s (b + 1)) (byteAt s (b + 2)) && leb (byteAt s (b + 2)) (byteAt s 4)) (p .1) in
+      let r = both (leb (byteAt s (b + 1)) (byteAt s (b + 2))) (leb (byteAt s (b + 2)) (byteAt s 4)) (q .1) in
+      (leb-true 1 _ (q .0), leb-true _ _ (r .0), leb-true _ _ (r .1))
+
+  sequence-fine : Keeps 5
+  unfolding lengthOk childrenOk nodeFrom Fine
+  sequence-fine l v c =
+      let p = is-within 2 32 n (both (within 2 32 n) (eqb (n % 2) 0) l .0) in
+      (omega arith, omega arith, omega arith, names-below s b (n / 2) own c)
+
+  branch-fine : Keeps 6
+  unfolding lengthOk childrenOk nodeFrom Fine
+  branch-fine l v c =
+      let p = is-within 4 16 n (both (within 4 16 n) (eqb (n % 2) 0) l .0) in
+      (omega arith, omega arith, omega arith, names-below s b (n / 2) own c)
+
+  loop-fine : Keeps 7
+  unfolding valueOk loopOk childrenOk below nodeFrom Fine
+  loop-fine l v c =
+      let p = both (leb (wordAt s b) (wordAt s (b + 2))) (leb (wordAt s (b + 2)) 10000) v in
+      let q = both (ltb (wordAt s (b + 4) + 2) (own + 2)) true c in
+      let h = ltb-true (wordAt s (b + 4) + 2) (own + 2) (q .0) in
+      (leb-true _ _ (p .0), leb-true _ _ (p .1), omega arith)
+
+node-tag : (own t : ℕ) → tagOk (own + 2) t ≡ true → (3 ≤ t) × (t ≤ 7)
+unfolding tagOk
+node-tag own t e =
+    is-within 3 7 t (rw (ne-eqb (own + 2) 0 (λ q. omega arith), ne-eqb (own + 2) 1 (λ q. omega arith)) at e)
+
+pub node-fine : (s : List ℕ) (own : ℕ) → GoodField s (own + 2) → Fine s own (nodeOf s (fieldAt s (own + 2)))
+node-fine s own g =
+    let b = bodyAt s (own + 2) in
+    let n = lengthAt s (own + 2) in
+    let r = node-tag own (tagAt s (own + 2)) (g .tag) in
+    by-tag (Keeps s b n own (g .body)) (tagAt s (own + 2)) (r .0) (r .1)
+    (plain-fine s b n own (g .body)) (block-fine s b n own (g .body)) (sequence-fine s b n own (g .body)) (branch-fine s b n own (g .body))
+    (loop-fine s b n own (g .body)) (g .len) (g .value) (g .children)
+
+-- row 1
+bus-row : (s : List ℕ) → GoodField s 0 → (busOk (byteAt s 3) (byteAt s 4) (byteAt s 5) ≡ true) × (fieldAt s 1 ≡ 6)
+unfolding tagOk lengthOk valueOk fieldAt
+bus-row s g =
+    let t : byteAt s 0 ≡ 1 = eqb-true (byteAt s 0) 1 (g .tag) in
+    let w : wordAt s 1 ≡ 3 = eqb-true (wordAt s 1) 3 (rw t at (g .len)) in
+    (rw t at (g .value), rw w)
+
+ranges : (b : Bus) → busOk (b .cores) (b .slot) (b .core) ≡ true → Ranges b
+unfolding busOk
+ranges b e =
+    let n = b .cores in
+    let l = b .slot in
+    let p = both (within 2 16 n) (within 1 128 l && (ltb (b .core) n && leb (n * l) 256)) e in
+    let q = both (within 1 128 l) (ltb (b .core) n && leb (n * l) 256) (p .1) in
+    let r = both (ltb (b .core) n) (leb (n * l) 256) (q .1) in
+    let c = is-within 2 16 n (p .0) in
+    let d = is-within 1 128 l (q .0) in
+    record {
+      cores-least = c .0;
+      cores-most = c .1;
+      slot-least = d .0;
+      slot-most = d .1;
+      core-lt = ltb-true _ _ (r .0);
+      period-most = leb-true _ _ (r .1);
+    }
+
+pub bus-fine : (s : List ℕ) → GoodField s 0 → Ranges (busOf s)
+bus-fine s g = ranges (busOf s) (bus-row s g .0)
+
+-- row 2
+starts-row : (s : List ℕ) → fieldAt s 1 ≡ 6 → GoodField s 1
+    → (startsOk s 9 (wordAt s 7) 0 (byteAt s 3 * byteAt s 4) ≡ true) × (within 1 256 (wordAt s 7) ≡ true)
+unfolding tagOk lengthOk valueOk
+starts-row s place g =
+    let t : byteAt s 6 ≡ 2 = eqb-true (byteAt s 6) 2 (rw place at (g .tag)) in
+    (rw t at (rw place at (g .value)), rw t at (rw place at (g .len)))
+
+pub starts-fine : (s : List ℕ) → GoodField s 0 → GoodField s 1 → Starts s (wordAt s 7) (byteAt s 3 * byteAt s 4)
+starts-fine s g h =
+    let r = starts-row s (bus-row s g .1) h in
+    let w = is-within 1 256 (wordAt s 7) (r .1) in
+    record {
+      some = w .0;
+      few = w .1;
+      low = λ i l. start-range s (byteAt s 3 * byteAt s 4) 9 (wordAt s 7) 0 i (r .0) l .1;
+      ascend = λ i j l m. starts-ascend s (byteAt s 3 * byteAt s 4) 9 (wordAt s 7) 0 i j (r .0) l m;
+    }

@@ -1,0 +1,12 @@
+pub mod Numbers
+pub mod Lists
+pub mod Passing
+pub mod Says
+pub mod Reasons
+pub mod Kept
+pub mod Scans
+pub mod Levels
+pub mod Sounds
+pub mod Promises
+pub mod Worked
+pub mod Walks

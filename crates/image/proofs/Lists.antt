@@ -1,0 +1,132 @@
+-- Lists of bytes and of child numbers that stand in an image: the first and the rest, from any index on; and what holds of each.
+use mathlib.Core.Path.{_≡_, refl, _∙_, ap}
+use mathlib.Core.Bool.{Bool, true, false, _&&_, _||_}
+use mathlib.Core.List.{List, [], _∷_}
+use Prim.Native.Nat.{ℕ, zero, suc, _+_, _-_, _*_, _≤_, _<_}
+use native.Mathlib.Nat.{add-zero, not-suc-le-zero}
+use native.Mathlib.Omega.{arith}
+use lib.Dec.{ltb, leb, eqb}
+use borrow.Author.Tests.{ltb-true, leb-true, eq-eqb}
+use Rattle.runs.specs.Nodes.{All}
+use Rattle.runs.specs.Runs.{listed}
+use Rattle.image.specs.Bytes.{byteAt, wordAt, bytes, words}
+use Rattle.image.specs.Fields.{startsOk, below}
+use Rattle.image.specs.Promise.{NamesBelow}
+use Rattle.image.proofs.Numbers.{both}
+
+module _ (s : List ℕ) (p n i : ℕ) where
+  -- child number i, and those after it
+  pub words-step : i < n → words s (p + 2 * i) (n - i) ≡ wordAt s (p + 2 * i) ∷ words s (p + 2 * (i + 1)) (n - (i + 1))
+  unfolding words
+  words-step h =
+      let e : n - i ≡ suc (n - (i + 1)) = omega arith in
+      let q : p + 2 * i + 2 ≡ p + 2 * (i + 1) = omega arith in
+      rw (e, q)
+
+  pub words-none : n ≤ i → words s (p + 2 * i) (n - i) ≡ []
+  unfolding words
+  words-none h = let e : n - i ≡ 0 = omega arith in rw e
+
+  -- byte i, and those after it
+  pub bytes-step : i < n → bytes s (p + i) (n - i) ≡ byteAt s (p + i) ∷ bytes s (p + (i + 1)) (n - (i + 1))
+  unfolding bytes
+  bytes-step h =
+      let e : n - i ≡ suc (n - (i + 1)) = omega arith in
+      let q : p + i + 1 ≡ p + (i + 1) = omega arith in
+      rw (e, q)
+
+  pub bytes-none : n ≤ i → bytes s (p + i) (n - i) ≡ []
+  unfolding bytes
+  bytes-none h = let e : n - i ≡ 0 = omega arith in rw e
+
+-- what holds of each child number holds of all
+pub all-words : (Q : ℕ → Type 0) (s : List ℕ) (p n : ℕ) → ((i : ℕ) → i < n → Q (wordAt s (p + 2 * i))) → All Q (words s p n)
+unfolding words
+all-words Q s p zero h = tt
+all-words Q s p (suc n) h =
+    let z : p + 2 * 0 ≡ p = omega arith in (
+      rw z at (h 0 (omega arith)),
+      all-words Q s (p + 2) n (λ i l. let e : p + 2 * suc i ≡ p + 2 + 2 * i = omega arith in rw e at (h (suc i) (omega arith))),
+    )
+
+-- the first of some child numbers
+pub words-some : (s : List ℕ) (p n : ℕ) → 1 ≤ n → (m : ℕ) × (ms : List ℕ) × (words s p n ≡ m ∷ ms)
+unfolding words
+words-some s p zero h = absurd (not-suc-le-zero h)
+words-some s p (suc n) h = (wordAt s p, words s (p + 2) n, refl)
+
+-- byte i is one of the list
+pub is-listed : (s : List ℕ) (p n i : ℕ) → i < n → listed (bytes s p n) (byteAt s (p + i)) ≡ true
+unfolding bytes listed
+is-listed s p zero i h = absurd (not-suc-le-zero h)
+is-listed s p (suc n) zero h = rw (add-zero p, eq-eqb (byteAt s p) (byteAt s p) refl)
+is-listed s p (suc n) (suc i) h =
+    let q : p + suc i ≡ p + 1 + i = omega arith in
+    rw q (or-true (eqb (byteAt s p) (byteAt s (p + 1 + i))) _ (is-listed s (p + 1) n i (omega arith)))
+  where
+    or-true : (a b : Bool) → b ≡ true → (a || b) ≡ true
+    or-true true b e = refl
+    or-true false b e = e
+
+-- one byte more at the end of the list
+pub listed-more : (s : List ℕ) (p n o : ℕ) → listed (bytes s p (n + 1)) o ≡ (listed (bytes s p n) o || eqb (byteAt s (p + n)) o)
+unfolding bytes listed
+listed-more s p zero o = rw add-zero (or-false (eqb (byteAt s p) o))
+  where
+    or-false : (a : Bool) → (a || false) ≡ a
+    or-false true = refl
+    or-false false = refl
+listed-more s p (suc n) o =
+    let e : suc n + 1 ≡ suc (n + 1) = omega arith in
+    let q : p + 1 + n ≡ p + suc n = omega arith in
+    rw e (rw (← q) (ap (λ (x : Bool). eqb (byteAt s p) o || x) (listed-more s (p + 1) n o) ∙ or-assoc (eqb (byteAt s p) o) (listed (bytes s (p + 1) n) o) (eqb (byteAt s (p + 1 + n)) o)))
+  where
+    or-assoc : (a b c : Bool) → (a || (b || c)) ≡ ((a || b) || c)
+    or-assoc true b c = refl
+    or-assoc false b c = refl
+
+-- rule 6 says of each child number that it is below the node's own, which has own + 2 fields before it
+pub names-below : (s : List ℕ) (p n own : ℕ) → below s p n (own + 2) ≡ true → NamesBelow s p n own
+unfolding below
+names-below s p zero own h i l = absurd (not-suc-le-zero l)
+names-below s p (suc n) own h zero l =
+    let r = both (ltb (wordAt s p + 2) (own + 2)) (below s (p + 2) n (own + 2)) h in
+    let z : p + 2 * 0 ≡ p = omega arith in
+    rw z (omega (arith, ltb-true (wordAt s p + 2) (own + 2) (r .0)))
+names-below s p (suc n) own h (suc i) l =
+    let r = both (ltb (wordAt s p + 2) (own + 2)) (below s (p + 2) n (own + 2)) h in
+    let e : p + 2 * suc i ≡ p + 2 + 2 * i = omega arith in
+    rw e (names-below s (p + 2) n own (r .1) i (omega arith))
+
+-- the rule of row 2: each start is below the period, and they ascend strictly
+module _ (s : List ℕ) (period : ℕ) where
+  first : (p n least : ℕ) → startsOk s p (suc n) least period ≡ true
+      → (least ≤ byteAt s p) × (byteAt s p < period) × (startsOk s (p + 1) n (byteAt s p + 1) period ≡ true)
+  unfolding startsOk
+  first p n least e =
+      let a = both (leb least (byteAt s p)) (ltb (byteAt s p) period && startsOk s (p + 1) n (byteAt s p + 1) period) e in
+      let b = both (ltb (byteAt s p) period) (startsOk s (p + 1) n (byteAt s p + 1) period) (a .1) in
+      (leb-true _ _ (a .0), ltb-true _ _ (b .0), b .1)
+
+  pub start-range : (p n least i : ℕ) → startsOk s p n least period ≡ true → i < n → (least ≤ byteAt s (p + i)) × (byteAt s (p + i) < period)
+  start-range p zero least i e h = absurd (not-suc-le-zero h)
+  start-range p (suc n) least zero e h = let f = first p n least e in rw (add-zero p) (f .0, f .1)
+  start-range p (suc n) least (suc i) e h =
+      let f = first p n least e in
+      let q : p + 1 + i ≡ p + suc i = omega arith in
+      let r = rw q at (start-range (p + 1) n (byteAt s p + 1) i (f .2) (omega arith)) in
+      (omega (arith, r .0, f .0), r .1)
+
+  pub starts-ascend : (p n least i j : ℕ) → startsOk s p n least period ≡ true → i < j → j < n → byteAt s (p + i) < byteAt s (p + j)
+  starts-ascend p zero least i j e l h = absurd (not-suc-le-zero h)
+  starts-ascend p (suc n) least i zero e l h = absurd (not-suc-le-zero l)
+  starts-ascend p (suc n) least zero (suc j) e l h =
+      let f = first p n least e in
+      let q : p + 1 + j ≡ p + suc j = omega arith in
+      let r = rw q at (start-range (p + 1) n (byteAt s p + 1) j (f .2) (omega arith)) in
+      rw (add-zero p) (omega (arith, r .0))
+  starts-ascend p (suc n) least (suc i) (suc j) e l h =
+      let f = first p n least e in
+      let q : p + 1 + i ≡ p + suc i = omega arith in
+      let w : p + 1 + j ≡ p + suc j = omega arith in
+      rw (q, w) at (starts-ascend (p + 1) n (byteAt s p + 1) i j (f .2) (omega arith) (omega arith))

@@ -1,0 +1,87 @@
+-- Good fields are passed by the scan one after the other, so that it goes on as the rest of the image does.
+use mathlib.Core.Path.{_≡_, refl, sym, _∙_}
+use mathlib.Core.List.{List}
+use Prim.Native.Nat.{ℕ, zero, suc, _+_, _-_, _≤_, _<_}
+use native.Mathlib.Numerals.{add-one}
+use native.Mathlib.Omega.{arith}
+use lib.ListN.{length}
+use borrow.Author.Tests.{le-leb, lt-leb, le-ltb}
+use borrow.Author.Count.{below-more}
+use Rattle.image.specs.Fields.{fieldOf}
+use Rattle.image.specs.Nodes.{fieldAt}
+use Rattle.image.specs.Judged.{scanFrom, scan}
+use Rattle.image.specs.Conditions.{lengthAt, GoodField, Passed, Complete}
+use Rattle.image.specs.declared.Refusal.{Refusal}
+use Rattle.image.specs.declared.fields.Judgement.the-variants.{Good, Bad}
+use Rattle.image.specs.declared.fields.End.the-variants.{Stopped, Whole}
+
+module _ (s : List ℕ) where
+  pub next-at : (k : ℕ) → fieldAt s (suc k) ≡ fieldAt s k + 3 + lengthAt s k
+  unfolding fieldAt
+  next-at k = refl
+
+  pub first-at : fieldAt s 0 ≡ 0
+  unfolding fieldAt
+  first-at = refl
+
+  pub good-is : (k : ℕ) → GoodField s k → fieldOf s (fieldAt s k) k ≡ Good (fieldAt s (suc k))
+  unfolding fieldOf
+  good-is k g =
+      rw (next-at k)
+      (simp (
+        le-ltb (length s - fieldAt s k) 3 (omega (arith, g .head)),
+        g .tag,
+        lt-leb 258 k (g .room),
+        g .len,
+        le-ltb (length s - fieldAt s k - 3) (lengthAt s k) (omega (arith, g .body)),
+        g .value,
+        g .children,
+      ))
+
+  -- the scan at the place of the field with `index` fields before it
+  module _ (at index : ℕ) (few : index ≤ 258) where
+    more : 259 - index ≡ suc (259 - (index + 1))
+    more = omega arith
+
+    pub on-good : (next : ℕ) → at < length s → fieldOf s at index ≡ Good next
+        → scanFrom (259 - index) s at index ≡ scanFrom (259 - (index + 1)) s next (index + 1)
+    unfolding scanFrom
+    on-good next h e = rw (more, lt-leb (length s) at h, e)
+
+    pub on-bad : (r : Refusal) → at < length s → fieldOf s at index ≡ Bad r → scanFrom (259 - index) s at index ≡ Stopped r at
+    unfolding scanFrom
+    on-bad r h e = rw (more, lt-leb (length s) at h, e)
+
+    pub at-end : length s ≤ at → scanFrom (259 - index) s at index ≡ Whole index
+    unfolding scanFrom
+    at-end h = rw (more, le-leb (length s) at h)
+
+  pub few : (n : ℕ) → Passed s n → n ≤ 258
+  few zero p = omega arith
+  few (suc n) p = omega (arith, p n (omega arith) .room)
+
+  pub fewer : (m n : ℕ) → m ≤ n → Passed s n → Passed s m
+  fewer m n h p k l = p k (omega arith)
+
+  pub inside : (n : ℕ) → Passed s n → fieldAt s n ≤ length s
+  inside zero p = rw first-at (omega arith)
+  inside (suc n) p = rw (next-at n) (p n (omega arith) .body)
+
+  -- the scan from the front goes on where the passed fields end
+  pub rest : (n : ℕ) → Passed s n → scanFrom (259 - n) s (fieldAt s n) n ≡ scan s
+  unfolding scan
+  rest zero p = rw first-at
+  rest (suc n) p =
+      let g = p n (omega arith) in
+      sym (rw (add-one n) at (on-good (fieldAt s n) n (omega (arith, g .room)) (fieldAt s (suc n)) (omega (arith, g .head)) (good-is n g)))
+      ∙ rest n (fewer n (suc n) (omega arith) p)
+
+  pub stops : (k : ℕ) (r : Refusal) → Passed s k → fieldAt s k < length s → fieldOf s (fieldAt s k) k ≡ Bad r → scan s ≡ Stopped r (fieldAt s k)
+  stops k r p l e = sym (rest k p) ∙ on-bad (fieldAt s k) k (few k p) r l e
+
+  pub ends : (n : ℕ) → Complete s n → scan s ≡ Whole n
+  ends n c = sym (rest n (c .passed)) ∙ at-end (fieldAt s n) n (few n (c .passed)) (omega (arith, c .ends))
+
+  -- one more good field
+  pub passed-more : (n : ℕ) → Passed s n → GoodField s n → Passed s (n + 1)
+  passed-more n p g = below-more (GoodField s) n p g

@@ -1,0 +1,101 @@
+-- Demand 1: an image is refused for a reason at a place if and only if the condition of that row of the table holds there, and accepted
+-- if and only if none holds. Each way follows the fields that are good before: the scan passes them, and the next test decides.
+use mathlib.Core.Path.{_≡_, refl, sym, _∙_, subst}
+use mathlib.Core.Bool.{false}
+use mathlib.Core.List.{List}
+use Prim.Native.Nat.{ℕ, _+_, _-_, _≤_, _<_}
+use native.Mathlib.Omega.{arith}
+use lib.ListN.{length}
+use lib.Dec.{ltb}
+use borrow.Author.Tests.{lt-ltb, le-ltb, lt-leb}
+use Rattle.runs.specs.Nodes.{depth, visits}
+use Rattle.image.specs.Fields.{fieldOf}
+use Rattle.image.specs.Nodes.{fieldAt, treeAt}
+use Rattle.image.specs.Judged.{scan, wholeOf, judged}
+use Rattle.image.specs.Conditions.{lengthAt, bodyAt, Passed, Complete, Condition, head-cut, wrong-tag, one-more, wrong-length, body-cut, wrong-value, not-below, no-node, too-deep, too-long, Accepting}
+use Rattle.image.specs.declared.Refusal.{Refusal}
+use Rattle.image.specs.declared.Refusal.the-variants.{Cut, Tag, Full, Length, Value, Forward, Unfinished, Deep, Long, Table}
+use Rattle.image.specs.declared.fields.Judgement.the-variants.{Bad}
+use Rattle.image.specs.declared.fields.End.the-variants.{Whole}
+use Rattle.image.specs.declared.Task.{Task}
+use Rattle.image.specs.declared.Verdict.{Verdict}
+use Rattle.image.specs.declared.Verdict.the-variants.{Accepted, Refused}
+use Rattle.image.proofs.Passing.{stops, ends}
+use Rattle.image.proofs.Says.{VerdictSays, EndSays, says, scan-says}
+
+module _ (s : List ℕ) where
+  stopped : (k : ℕ) (r : Refusal) → Passed s k → fieldAt s k < length s → fieldOf s (fieldAt s k) k ≡ Bad r → judged s ≡ Refused r (fieldAt s k)
+  unfolding judged
+  stopped k r p l e = rw (stops s k r p l e)
+
+  whole : (n : ℕ) → Complete s n → judged s ≡ wholeOf s n
+  unfolding judged
+  whole n c = rw (ends s n c)
+
+  -- the head stands; the body does
+  head : (k : ℕ) → fieldAt s k + 3 ≤ length s → ltb (length s - fieldAt s k) 3 ≡ false
+  head k h = le-ltb (length s - fieldAt s k) 3 (omega arith)
+
+  body : (k : ℕ) → bodyAt s k + lengthAt s k ≤ length s → ltb (length s - fieldAt s k - 3) (lengthAt s k) ≡ false
+  body k h = le-ltb (length s - fieldAt s k - 3) (lengthAt s k) (omega arith)
+
+  pub refused-when : (r : Refusal) (place : ℕ) → Condition s r place → judged s ≡ Refused r place
+  unfolding fieldOf wholeOf
+  refused-when Cut _ (head-cut k p l h) = stopped k Cut p l (simp (lt-ltb (length s - fieldAt s k) 3 (omega arith)))
+  refused-when Tag _ (wrong-tag k p h a) = stopped k Tag p (omega arith) (simp (head k h, a))
+  refused-when Full _ (one-more p h a) = stopped 258 Full p (omega arith) (simp (head 258 h, a))
+  refused-when Length _ (wrong-length k p h a r n) = stopped k Length p (omega arith) (simp (head k h, a, lt-leb 258 k r, n))
+  refused-when Cut _ (body-cut k p h a r n c) =
+      stopped k Cut p (omega arith) (simp (head k h, a, lt-leb 258 k r, n, lt-ltb (length s - fieldAt s k - 3) (lengthAt s k) (omega arith)))
+  refused-when Value _ (wrong-value k p h a r n i v) = stopped k Value p (omega arith) (simp (head k h, a, lt-leb 258 k r, n, body k i, v))
+  refused-when Forward _ (not-below k p h a r n i v c) =
+      stopped k Forward p (omega arith) (simp (head k h, a, lt-leb 258 k r, n, body k i, v, c))
+  refused-when Unfinished _ (no-node n c h) = whole n c ∙ simp (lt-ltb n 3 h)
+  refused-when Deep _ (too-deep n c d) =
+      let e : n + 3 - 3 ≡ n = omega arith in
+      whole (n + 3) c ∙ simp (le-ltb (n + 3) 3 (omega arith), e, lt-ltb 24 (depth (treeAt s n)) d)
+  refused-when Long _ (too-long n c d v) =
+      let e : n + 3 - 3 ≡ n = omega arith in
+      whole (n + 3) c ∙ simp (le-ltb (n + 3) 3 (omega arith), e, le-ltb 24 (depth (treeAt s n)) d, lt-ltb 100000 (visits (treeAt s n)) v)
+
+  pub when-refused : (r : Refusal) (place : ℕ) → judged s ≡ Refused r place → Condition s r place
+  when-refused r place e = subst (VerdictSays s) e (says s)
+
+  pub when-accepted : (t : Task) → judged s ≡ Accepted t → Accepting s t
+  when-accepted t e = subst (VerdictSays s) e (says s)
+
+  -- a whole scan ends with the image: its fuel never runs out
+  pub whole-ends : (n : ℕ) → scan s ≡ Whole n → Complete s n
+  whole-ends n e = subst (EndSays s) e (scan-says s)
+
+  pub accepted-when : (t : Task) → Accepting s t → judged s ≡ Accepted t
+  unfolding wholeOf
+  accepted-when t a =
+      let n = t .nodes + 2 in
+      let e : n - 3 ≡ t .entry = omega (arith, a .last) in
+      let q : n - 2 ≡ t .nodes = omega arith in
+      whole n (a .complete)
+      ∙ simp (
+        le-ltb n 3 (omega (arith, a .last)),
+        e,
+        q,
+        le-ltb 24 (depth (treeAt s (t .entry))) (a .shallow),
+        le-ltb 100000 (visits (treeAt s (t .entry))) (a .short),
+        sym (a .bus),
+        sym (a .starts),
+      )
+
+  -- judging never answers `table`
+  pub never-table : (place : ℕ) → judged s ≡ Refused Table place → ⊥
+  never-table place e = elim (when-refused Table place e) [ ]
+
+  -- "The first that holds is returned; an image is accepted when none holds."
+  pub accepted-if-none : ((r : Refusal) (place : ℕ) → Condition s r place → ⊥) → (t : Task) × (judged s ≡ Accepted t)
+  accepted-if-none free = by-verdict (judged s) refl
+    where
+      by-verdict : (v : Verdict) → judged s ≡ v → (t : Task) × (judged s ≡ Accepted t)
+      by-verdict (Accepted t) e = (t, e)
+      by-verdict (Refused r place) e = absurd (free r place (when-refused r place e))
+
+  pub none-if-accepted : (t : Task) → judged s ≡ Accepted t → (r : Refusal) (place : ℕ) → Condition s r place → ⊥
+  none-if-accepted t e r place c = let f = refused-when r place c in let z : _≡_ {A = ℕ} 0 1 = cc in omega arith

@@ -1,0 +1,109 @@
+-- What a walk learns of a node of an accepted image from its decoding: its tree, the ranges of its numbers, and its children one by one.
+use mathlib.Core.Path.{_≡_, refl, sym, _∙_, ap}
+use mathlib.Core.List.{List}
+use lib.ListN.{length, getD}
+use native.Mathlib.Omega.{arith}
+use Prim.Native.Nat.{ℕ, suc, _+_, _-_, _*_, _≤_, _<_}
+use Rattle.runs.specs.Bus.{Bus}
+use Rattle.runs.specs.Slots.{periodOf, equal}
+use Rattle.runs.specs.Clock.{Places}
+use Rattle.runs.specs.Nodes.{Tree, Trees, none, more, treeBy, trees}
+use Rattle.runs.specs.Carried.{carried, carriedAll, carriedAny}
+use Rattle.runs.proofs.Executions.{Valid}
+use Rattle.runs.proofs.Whole.{node-valid}
+use Rattle.bus.specs.Waits.{slotsOf}
+use Rattle.image.specs.Bytes.{byteAt, wordAt}
+use Rattle.image.specs.Nodes.{nodeOf, meant, kindMeant, treeAt, childTrees, taskOf}
+use Rattle.image.specs.Promise.{Fine, Standing}
+use Rattle.image.specs.Walks.{Walkable, Named}
+use Rattle.image.specs.declared.Task.{Task}
+use Rattle.image.specs.declared.nodes.Node.the-variants.{Plain, Bus as Block, Sequence, Branch, Loop}
+use Rattle.image.specs.declared.nodes.Plain.{Plain as PlainNumbers}
+use Rattle.image.specs.declared.nodes.BusBlock.{BusBlock}
+use Rattle.image.specs.declared.nodes.Children.{Children}
+use Rattle.image.specs.declared.nodes.Loop.{Loop as LoopNumbers}
+use Rattle.image.proofs.Lists.{words-step, words-none}
+use Rattle.image.proofs.Levels.{inside-here, few-here, fine-here, tree-here}
+use Rattle.image.proofs.Sounds.{standing}
+
+-- ---- children: child i, and those after it
+
+pub trees-more : (s : List ℕ) (p n i : ℕ) → i < n
+    → childTrees s (p + 2 * i) (n - i) ≡ more (treeAt s (wordAt s (p + 2 * i))) (childTrees s (p + 2 * (i + 1)) (n - (i + 1)))
+unfolding trees
+trees-more s p n i h = rw (words-step s p n i h)
+
+pub trees-none : (s : List ℕ) (p n i : ℕ) → n ≤ i → childTrees s (p + 2 * i) (n - i) ≡ none
+unfolding trees
+trees-none s p n i h = rw (words-none s p n i h)
+
+-- what is carried through the children, one after the other, and through any one of them
+module _ (b : Bus) (q : Places) {X : Type 0} (empty : X) (join : X → X → X) (later : ℕ → X → X) (s : List ℕ) (p n i : ℕ) where
+  pub all-more : i < n → (T : List X)
+      → carriedAll b q empty join later (childTrees s (p + 2 * i) (n - i)) T
+      ≡ carriedAll b q empty join later (childTrees s (p + 2 * (i + 1)) (n - (i + 1))) (carried b q empty join later (treeAt s (wordAt s (p + 2 * i))) T)
+  unfolding carried
+  all-more h T = ap (λ (x : Trees). carriedAll b q empty join later x T) (trees-more s p n i h)
+
+  pub any-more : i < n → (T : List X) (o : ℕ)
+      → carriedAny b q empty join later (childTrees s (p + 2 * i) (n - i)) T o
+      ≡ join (getD (carried b q empty join later (treeAt s (wordAt s (p + 2 * i))) T) o empty)
+      (carriedAny b q empty join later (childTrees s (p + 2 * (i + 1)) (n - (i + 1))) T o)
+  unfolding carried
+  any-more h T o = ap (λ (x : Trees). carriedAny b q empty join later x T o) (trees-more s p n i h)
+
+  pub all-done : n ≤ i → (T : List X) → carriedAll b q empty join later (childTrees s (p + 2 * i) (n - i)) T ≡ T
+  unfolding carried
+  all-done h T = ap (λ (x : Trees). carriedAll b q empty join later x T) (trees-none s p n i h)
+
+  pub any-done : n ≤ i → (T : List X) (o : ℕ) → carriedAny b q empty join later (childTrees s (p + 2 * i) (n - i)) T o ≡ empty
+  unfolding carried
+  any-done h T o = ap (λ (x : Trees). carriedAny b q empty join later x T o) (trees-none s p n i h)
+
+-- ---- nodes
+
+module _ (s : List ℕ) (t : Task) (places : List ℕ) (w : Walkable s t places) where
+  pub period-small : periodOf (slotsOf (t .bus)) ≤ 256
+  period-small = w .sound .bus .period-most
+
+  module _ (n : ℕ) (low : n ≤ t .entry) where
+    pub valid-at : Valid (equal (slotsOf (t .bus)) .most) (treeAt s n)
+    valid-at = node-valid (taskOf s t) (w .accepted) n (omega arith)
+
+    here : Standing s n (getD places n 0)
+    here = standing s t places (w .sound) n (omega (arith, w .sound .last))
+
+    pub node-place : (getD places n 0 ≤ length s) × (n < 256)
+    node-place = (inside-here s n _ here, few-here s n _ here)
+
+    -- the tree of the node that is decoded, and the ranges of its numbers
+    pub as-plain : (p : PlainNumbers) → nodeOf s (getD places n 0) ≡ Plain p
+        → (treeAt s n ≡ Tree.plain (p .lowest) (p .highest)) × (p .lowest ≤ p .highest) × (p .highest ≤ 65535) × (p .highest ≤ p .lowest + 63)
+    unfolding meant treeBy Fine
+    as-plain p e = let f = fine-here s n _ here (Plain p) e in (tree-here s n _ here (Plain p) e, f .0, f .1, omega (arith, f .0, f .2))
+
+    pub as-block : (b : BusBlock) → nodeOf s (getD places n 0) ≡ Block b
+        → (treeAt s n ≡ Tree.bus (kindMeant (b .kind)) (b .lowest) (b .highest)) × (1 ≤ b .lowest) × (b .lowest ≤ b .highest) × (b .highest ≤ t .bus .slot)
+    unfolding meant treeBy Fine
+    as-block b e =
+        let f = fine-here s n _ here (Block b) e in
+        (tree-here s n _ here (Block b) e, f .0, f .1, rw (w .sound .bus-is) (f .2))
+
+    pub as-sequence : (c : Children) → nodeOf s (getD places n 0) ≡ Sequence c
+        → (treeAt s n ≡ Tree.sequence (childTrees s (c .place) (c .count))) × Named s (c .place) (c .count) n
+    unfolding meant treeBy Fine
+    as-sequence c e =
+        let f = fine-here s n _ here (Sequence c) e in
+        (tree-here s n _ here (Sequence c) e, record { few = f .1; inside = f .2; below = f .3 })
+
+    pub as-branch : (c : Children) → nodeOf s (getD places n 0) ≡ Branch c
+        → (treeAt s n ≡ Tree.branch (childTrees s (c .place) (c .count))) × Named s (c .place) (c .count) n
+    unfolding meant treeBy Fine
+    as-branch c e =
+        let f = fine-here s n _ here (Branch c) e in
+        (tree-here s n _ here (Branch c) e, record { few = omega (arith, f .1); inside = f .2; below = f .3 })
+
+    pub as-loop : (l : LoopNumbers) → nodeOf s (getD places n 0) ≡ Loop l
+        → (treeAt s n ≡ Tree.loop (l .least) (l .greatest) (treeAt s (l .body))) × (l .body < n) × (l .least ≤ l .greatest) × (l .greatest ≤ 10000)
+    unfolding meant treeBy Fine
+    as-loop l e = let f = fine-here s n _ here (Loop l) e in (tree-here s n _ here (Loop l) e, f .2, f .0, f .1)

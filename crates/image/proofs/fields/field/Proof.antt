@@ -1,0 +1,156 @@
+-- At each return the tests that led there say which case of `fieldOf` holds.
+use borrow.Author.Needs.{needs}
+use Rattle.image.proofs.fields.field.Statement.{statement}
+use Rattle.image.proofs.fields.field.Tie as tie
+use Rattle.image.specs.Fields.{fieldOf}
+use mathlib.Core.Path.{sym, _∙_}
+use borrow.Author.Tests.{le-leb, lt-leb, lt-ltb, le-ltb, not-true, not-false}
+
+sub-left : tie.Need-sub-left
+sub-left c = search needs
+
+returns : tie.Need-returns
+unfolding fieldOf
+returns c =
+    simp (lt-ltb _ _ (c .if1 .taken))
+
+byte-requires : tie.Need-byte-requires
+byte-requires c κs = search needs
+
+tag-ok-requires : tie.Need-tag-ok-requires
+tag-ok-requires c κs = search needs
+
+returns-2 : tie.Need-returns-2
+unfolding fieldOf
+returns-2 c =
+    rw (sym (c .before .before .byte .ensures .0))
+    (simp (
+      le-ltb _ _ (c .before .before .before .if1 .left),
+      sym (c .before .tag-ok .ensures) ∙ not-true _ (c .if2 .taken),
+    ))
+
+returns-3 : tie.Need-returns-3
+unfolding fieldOf
+returns-3 c =
+    rw (sym (c .before .before .before .byte .ensures .0))
+    (simp (
+      le-ltb _ _ (c .before .before .before .before .if1 .left),
+      sym (c .before .before .tag-ok .ensures) ∙ not-false _ (c .before .if2 .left),
+      le-leb 258 _ (c .if3 .taken),
+    ))
+
+add-word : tie.Need-add-word
+add-word c = search needs
+
+word-requires : tie.Need-word-requires
+word-requires c κs = search needs
+
+length-ok-requires : tie.Need-length-ok-requires
+length-ok-requires c κs = search needs
+
+returns-4 : tie.Need-returns-4
+unfolding fieldOf
+returns-4 c =
+    rw (sym (c .before .before .before .before .before .before .byte .ensures .0), sym (c .before .before .word .ensures .0))
+    (simp (
+      le-ltb _ _ (c .before .before .before .before .before .before .before .if1 .left),
+      sym (c .before .before .before .before .before .tag-ok .ensures) ∙ not-false _ (c .before .before .before .before .if2 .left),
+      lt-leb 258 _ (c .before .before .before .if3 .left),
+      sym (c .before .length-ok .ensures) ∙ not-true _ (c .if4 .taken),
+    ))
+
+returns-5 : tie.Need-returns-5
+unfolding fieldOf
+returns-5 c =
+    rw (sym (c .before .before .before .before .before .before .before .byte .ensures .0), sym (c .before .before .before .word .ensures .0))
+    (simp (
+      le-ltb _ _ (c .before .before .before .before .before .before .before .before .if1 .left),
+      sym (c .before .before .before .before .before .before .tag-ok .ensures) ∙ not-false _ (c .before .before .before .before .before .if2 .left),
+      lt-leb 258 _ (c .before .before .before .before .if3 .left),
+      sym (c .before .before .length-ok .ensures) ∙ not-false _ (c .before .if4 .left),
+      lt-ltb _ _ (c .if5 .taken),
+    ))
+
+add-value-ok : tie.Need-add-value-ok
+add-value-ok c = search needs
+
+value-ok-requires : tie.Need-value-ok-requires
+value-ok-requires c κs = search needs
+
+add-children-ok : tie.Need-add-children-ok
+add-children-ok c = search needs
+
+children-ok-requires : tie.Need-children-ok-requires
+children-ok-requires c κs = search needs
+
+returns-6 : tie.Need-returns-6
+unfolding fieldOf
+returns-6 c =
+    rw (sym (c .before .before .before .before .before .before .before .before .before .before .byte .ensures .0), sym (c .before .before .before .before .before .before .word .ensures .0))
+    (simp (
+      le-ltb _ _ (c .before .before .before .before .before .before .before .before .before .before .before .if1 .left),
+      sym (c .before .before .before .before .before .before .before .before .before .tag-ok .ensures) ∙ not-false _ (c .before .before .before .before .before .before .before .before .if2 .left),
+      lt-leb 258 _ (c .before .before .before .before .before .before .before .if3 .left),
+      sym (c .before .before .before .before .before .length-ok .ensures) ∙ not-false _ (c .before .before .before .before .if4 .left),
+      le-ltb _ _ (c .before .before .before .if5 .left),
+      sym (c .before .before .value-ok .ensures) ∙ not-true _ (c .if6 .taken),
+    ))
+
+returns-7 : tie.Need-returns-7
+unfolding fieldOf
+returns-7 c =
+    rw (sym (c .before .before .before .before .before .before .before .before .before .before .before .byte .ensures .0), sym (c .before .before .before .before .before .before .before .word .ensures .0))
+    (simp (
+      le-ltb _ _ (c .before .before .before .before .before .before .before .before .before .before .before .before .if1 .left),
+      sym (c .before .before .before .before .before .before .before .before .before .before .tag-ok .ensures) ∙ not-false _ (c .before .before .before .before .before .before .before .before .before .if2 .left),
+      lt-leb 258 _ (c .before .before .before .before .before .before .before .before .if3 .left),
+      sym (c .before .before .before .before .before .before .length-ok .ensures) ∙ not-false _ (c .before .before .before .before .before .if4 .left),
+      le-ltb _ _ (c .before .before .before .before .if5 .left),
+      sym (c .before .before .before .value-ok .ensures) ∙ not-false _ (c .before .if6 .left),
+      sym (c .before .before .children-ok .ensures) ∙ not-true _ (c .if7 .taken),
+    ))
+
+add-t9 : tie.Need-add-t9
+add-t9 c = search needs
+
+add-t19 : tie.Need-add-t19
+add-t19 c = search needs
+
+returns-8 : tie.Need-returns-8
+unfolding fieldOf
+returns-8 c =
+    rw (sym (c .before .before .before .before .before .before .before .before .before .before .before .byte .ensures .0), sym (c .before .before .before .before .before .before .before .word .ensures .0))
+    (simp (
+      le-ltb _ _ (c .before .before .before .before .before .before .before .before .before .before .before .before .if1 .left),
+      sym (c .before .before .before .before .before .before .before .before .before .before .tag-ok .ensures) ∙ not-false _ (c .before .before .before .before .before .before .before .before .before .if2 .left),
+      lt-leb 258 _ (c .before .before .before .before .before .before .before .before .if3 .left),
+      sym (c .before .before .before .before .before .before .length-ok .ensures) ∙ not-false _ (c .before .before .before .before .before .if4 .left),
+      le-ltb _ _ (c .before .before .before .before .if5 .left),
+      sym (c .before .before .before .value-ok .ensures) ∙ not-false _ (c .before .if6 .left),
+      sym (c .before .before .children-ok .ensures) ∙ not-false _ (c .if7 .left),
+    ))
+
+pub field-spec : {M : Type 1} → statement M
+field-spec =
+    tie.close
+    (tie.spec
+    sub-left
+    returns
+    byte-requires
+    tag-ok-requires
+    returns-2
+    returns-3
+    add-word
+    word-requires
+    length-ok-requires
+    returns-4
+    returns-5
+    add-value-ok
+    value-ok-requires
+    add-children-ok
+    children-ok-requires
+    returns-6
+    returns-7
+    add-t9
+    add-t19
+    returns-8)

@@ -1,0 +1,128 @@
+-- In each arm the tag says which case of `nodeFrom` holds.
+use borrow.Author.Needs.{needs}
+use Rattle.image.proofs.nodes.node_at.Statement.{statement}
+use Rattle.image.proofs.nodes.node_at.Tie as tie
+use Rattle.image.specs.Nodes.{nodeFrom}
+use Rattle.image.specs.Bytes.{byteAt}
+use borrow.Author.Tests.{ne-eqb}
+use mathlib.Core.Path.{sym, _∙_}
+
+byte-requires : tie.Need-byte-requires
+byte-requires c κs = search needs
+
+add-word : tie.Need-add-word
+add-word c = search needs
+
+word-requires : tie.Need-word-requires
+word-requires c κs = search needs
+
+add-body : tie.Need-add-body
+add-body c = search needs
+
+word-requires-2 : tie.Need-word-requires-2
+word-requires-2 c κs = search needs
+
+add-word-2 : tie.Need-add-word-2
+add-word-2 c = search needs
+
+word-requires-3 : tie.Need-word-requires-3
+word-requires-3 c κs = search needs
+
+byte-requires-2 : tie.Need-byte-requires-2
+byte-requires-2 c κs = search needs
+
+kind-of-requires : tie.Need-kind-of-requires
+kind-of-requires c κs = search needs
+
+add-byte : tie.Need-add-byte
+add-byte c = search needs
+
+byte-requires-3 : tie.Need-byte-requires-3
+byte-requires-3 c κs = search needs
+
+add-byte-2 : tie.Need-add-byte-2
+add-byte-2 c = search needs
+
+byte-requires-4 : tie.Need-byte-requires-4
+byte-requires-4 c κs = search needs
+
+word-requires-4 : tie.Need-word-requires-4
+word-requires-4 c κs = search needs
+
+add-word-3 : tie.Need-add-word-3
+add-word-3 c = search needs
+
+word-requires-5 : tie.Need-word-requires-5
+word-requires-5 c κs = search needs
+
+add-word-4 : tie.Need-add-word-4
+add-word-4 c = search needs
+
+word-requires-6 : tie.Need-word-requires-6
+word-requires-6 c κs = search needs
+
+returns : tie.Need-returns
+unfolding nodeFrom
+returns c = rw (sym (c .before .before .before .before .byte .ensures .0) ∙ c .before .before .match .keys1, c .before .word2 .ensures .0, c .word3 .ensures .0)
+
+returns-2 : tie.Need-returns-2
+unfolding nodeFrom
+returns-2 c =
+    rw (
+      sym (c .before .before .before .before .before .before .byte .ensures .0) ∙ c .before .before .before .before .match .keys2,
+      c .before .before .kind-of .ensures,
+      c .before .before .before .byte2 .ensures .0,
+      c .before .byte3 .ensures .0,
+      c .byte4 .ensures .0,
+    )
+
+returns-3 : tie.Need-returns-3
+unfolding nodeFrom
+returns-3 c = rw (sym (c .before .before .byte .ensures .0) ∙ c .match .keys3, c .before .word .ensures .0)
+
+returns-4 : tie.Need-returns-4
+unfolding nodeFrom
+returns-4 c = rw (sym (c .before .before .byte .ensures .0) ∙ c .match .keys4, c .before .word .ensures .0)
+
+returns-5 : tie.Need-returns-5
+unfolding nodeFrom
+returns-5 c =
+    let a = c .before .before .before .before .before .before .before .args in
+    let tag = byteAt (a .image .now) (a .at) in
+    let b = c .before .before .before .before .before .byte .ensures .0 in
+    let r = c .before .before .before .match .rest in
+    rw (c .before .before .word4 .ensures .0, c .before .word5 .ensures .0, c .word6 .ensures .0)
+    (simp (
+      ne-eqb tag 3 (λ q. r .0 .0 .0 .1 (b ∙ q)),
+      ne-eqb tag 4 (λ q. r .0 .0 .1 (b ∙ q)),
+      ne-eqb tag 5 (λ q. r .0 .1 (b ∙ q)),
+      ne-eqb tag 6 (λ q. r .1 (b ∙ q)),
+    ))
+
+pub node-at-spec : {M : Type 1} → statement M
+node-at-spec =
+    tie.close
+    (tie.spec
+    byte-requires
+    add-word
+    word-requires
+    add-body
+    word-requires-2
+    add-word-2
+    word-requires-3
+    byte-requires-2
+    kind-of-requires
+    add-byte
+    byte-requires-3
+    add-byte-2
+    byte-requires-4
+    word-requires-4
+    add-word-3
+    word-requires-5
+    add-word-4
+    word-requires-6
+    returns
+    returns-2
+    returns-3
+    returns-4
+    returns-5)

@@ -1,0 +1,41 @@
+-- At each return the tests so far decide the conjunction; the product of two bytes fits.
+use borrow.Author.Needs.{needs}
+use Rattle.image.proofs.rows.bus_ok.Statement.{statement}
+use Rattle.image.proofs.rows.bus_ok.Tie as tie
+use Rattle.image.specs.Fields.{busOk}
+use Rattle.image.proofs.Numbers.{product-fits}
+use mathlib.Core.Path.{sym, _∙_}
+use borrow.Author.Tests.{not-true, not-false, lt-ltb, le-ltb}
+use native.Mathlib.Omega.{arith}
+
+between-requires : tie.Need-between-requires
+between-requires c κs = search needs
+
+returns : tie.Need-returns
+unfolding busOk
+returns c = simp (sym (c .before .between .ensures) ∙ not-true _ (c .if1 .taken))
+
+between-requires-2 : tie.Need-between-requires-2
+between-requires-2 c κs = search needs
+
+returns-2 : tie.Need-returns-2
+unfolding busOk
+returns-2 c = simp (sym (c .before .before .before .between .ensures) ∙ not-false _ (c .before .before .if1 .left), sym (c .before .between2 .ensures) ∙ not-true _ (c .if2 .taken))
+
+returns-3 : tie.Need-returns-3
+unfolding busOk
+returns-3 c =
+    simp (sym (c .before .before .before .before .between .ensures) ∙ not-false _ (c .before .before .before .if1 .left), sym (c .before .before .between2 .ensures) ∙ not-false _ (c .before .if2 .left), le-ltb _ _ (c .if3 .taken))
+
+mul-result : tie.Need-mul-result
+mul-result c = product-fits _ _ (omega arith) (omega arith)
+
+returns-4 : tie.Need-returns-4
+unfolding busOk
+returns-4 c =
+    simp (sym (c .before .before .before .before .between .ensures) ∙ not-false _ (c .before .before .before .if1 .left), sym (c .before .before .between2 .ensures) ∙ not-false _ (c .before .if2 .left), lt-ltb _ _ (c .if3 .left))
+
+pub bus-ok-spec : {M : Type 1} → statement M
+bus-ok-spec =
+    tie.close
+    (tie.spec between-requires returns between-requires-2 returns-2 returns-3 mul-result returns-4)

@@ -1,0 +1,17 @@
+-- At each return the tests so far decide the conjunction; two bytes are at most 65,535.
+use Rattle.image.proofs.rows.plain_ok.Statement.{statement}
+use Rattle.image.proofs.rows.plain_ok.Tie as tie
+use Rattle.image.specs.Fields.{plainOk}
+use borrow.Author.Tests.{le-leb, lt-leb}
+use native.Mathlib.Omega.{arith}
+
+returns : tie.Need-returns
+unfolding plainOk
+returns c = simp (le-leb (c .before .args .highest) 65535 (omega arith), lt-leb _ _ (c .if1 .taken))
+
+returns-2 : tie.Need-returns-2
+unfolding plainOk
+returns-2 c = simp (le-leb (c .before .args .highest) 65535 (omega arith), le-leb _ _ (c .if1 .left))
+
+pub plain-ok-spec : {M : Type 1} → statement M
+plain-ok-spec = tie.close (tie.spec returns returns-2)

@@ -1,0 +1,150 @@
+-- In each arm the tag says which row of `valueOk` holds, and the row's function says the rest.
+use borrow.Author.Needs.{needs}
+use Rattle.image.proofs.rows.value_ok.Statement.{statement}
+use Rattle.image.proofs.rows.value_ok.Tie as tie
+use Rattle.image.specs.Fields.{valueOk, startsOk, blockOk}
+use Rattle.bus.specs.declared.Bus.{Bus}
+use Rattle.image.proofs.Numbers.{product-fits}
+use mathlib.Core.Path.{sym, _∙_, ap}
+use Prim.Native.Nat.{_*_}
+use borrow.Author.Tests.{ne-eqb}
+use native.Mathlib.Omega.{arith}
+
+byte-requires : tie.Need-byte-requires
+byte-requires c κs = search needs
+
+add-byte : tie.Need-add-byte
+add-byte c = search needs
+
+byte-requires-2 : tie.Need-byte-requires-2
+byte-requires-2 c κs = search needs
+
+add-byte-2 : tie.Need-add-byte-2
+add-byte-2 c = search needs
+
+byte-requires-3 : tie.Need-byte-requires-3
+byte-requires-3 c κs = search needs
+
+bus-ok-requires : tie.Need-bus-ok-requires
+bus-ok-requires c κs = search needs
+
+bus-at-requires : tie.Need-bus-at-requires
+bus-at-requires c κs = search needs
+
+mul-starts-ok : tie.Need-mul-starts-ok
+mul-starts-ok c = product-fits _ _ (omega (arith, c .before .bus-at .ensures .1)) (omega (arith, c .before .bus-at .ensures .2))
+
+starts-ok-requires : tie.Need-starts-ok-requires
+starts-ok-requires c κs = search needs
+
+word-requires : tie.Need-word-requires
+word-requires c κs = search needs
+
+add-word : tie.Need-add-word
+add-word c = search needs
+
+word-requires-2 : tie.Need-word-requires-2
+word-requires-2 c κs = search needs
+
+plain-ok-requires : tie.Need-plain-ok-requires
+plain-ok-requires c κs = search needs
+
+bus-at-requires-2 : tie.Need-bus-at-requires-2
+bus-at-requires-2 c κs = search needs
+
+byte-requires-4 : tie.Need-byte-requires-4
+byte-requires-4 c κs = search needs
+
+add-byte-3 : tie.Need-add-byte-3
+add-byte-3 c = search needs
+
+byte-requires-5 : tie.Need-byte-requires-5
+byte-requires-5 c κs = search needs
+
+add-byte-4 : tie.Need-add-byte-4
+add-byte-4 c = search needs
+
+byte-requires-6 : tie.Need-byte-requires-6
+byte-requires-6 c κs = search needs
+
+block-ok-requires : tie.Need-block-ok-requires
+block-ok-requires c κs = search needs
+
+word-requires-3 : tie.Need-word-requires-3
+word-requires-3 c κs = search needs
+
+add-word-2 : tie.Need-add-word-2
+add-word-2 c = search needs
+
+word-requires-4 : tie.Need-word-requires-4
+word-requires-4 c κs = search needs
+
+loop-ok-requires : tie.Need-loop-ok-requires
+loop-ok-requires c κs = search needs
+
+returns : tie.Need-returns
+unfolding valueOk
+returns c = rw (c .before .before .before .before .match .keys1, sym (c .before .before .before .byte .ensures .0), sym (c .before .before .byte2 .ensures .0), sym (c .before .byte3 .ensures .0)) (c .bus-ok .ensures)
+
+returns-2 : tie.Need-returns-2
+unfolding valueOk
+returns-2 c =
+    let a = c .before .before .before .before .before .args in
+    rw (c .before .before .before .match .keys2)
+    (c .starts-ok .ensures ∙ ap (λ (x : Bus). startsOk (a .image .now) (a .body) (a .len) 0 (x .cores * x .slot)) (c .before .before .bus-at .ensures .0))
+
+returns-3 : tie.Need-returns-3
+unfolding valueOk
+returns-3 c = rw (c .before .before .before .match .keys3, sym (c .before .before .word .ensures .0), sym (c .before .word2 .ensures .0)) (c .plain-ok .ensures)
+
+returns-4 : tie.Need-returns-4
+unfolding valueOk
+returns-4 c =
+    rw (c .before .before .before .before .before .match .keys4, sym (c .before .before .before .byte4 .ensures .0), sym (c .before .before .byte5 .ensures .0), sym (c .before .byte6 .ensures .0))
+    (c .block-ok .ensures ∙ ap (λ (x : Bus). blockOk (c .before .before .before .byte4 .result) (c .before .before .byte5 .result) (c .before .byte6 .result) (x .slot)) (c .before .before .before .before .bus-at2 .ensures .0))
+
+returns-5 : tie.Need-returns-5
+unfolding valueOk
+returns-5 c = rw (c .before .before .before .match .keys5, sym (c .before .before .word3 .ensures .0), sym (c .before .word4 .ensures .0)) (c .loop-ok .ensures)
+
+returns-6 : tie.Need-returns-6
+unfolding valueOk
+returns-6 c =
+    let r = c .match .rest in
+    let tag = c .before .before .args .tag in
+    simp (ne-eqb tag 1 (r .0 .0 .0 .0 .1), ne-eqb tag 2 (r .0 .0 .0 .1), ne-eqb tag 3 (r .0 .0 .1), ne-eqb tag 4 (r .0 .1), ne-eqb tag 7 (r .1))
+
+pub value-ok-spec : {M : Type 1} → statement M
+value-ok-spec =
+    tie.close
+    (tie.spec
+    byte-requires
+    add-byte
+    byte-requires-2
+    add-byte-2
+    byte-requires-3
+    bus-ok-requires
+    bus-at-requires
+    mul-starts-ok
+    starts-ok-requires
+    word-requires
+    add-word
+    word-requires-2
+    plain-ok-requires
+    bus-at-requires-2
+    byte-requires-4
+    add-byte-3
+    byte-requires-5
+    add-byte-4
+    byte-requires-6
+    block-ok-requires
+    word-requires-3
+    add-word-2
+    word-requires-4
+    loop-ok-requires
+    returns
+    returns-2
+    returns-3
+    returns-4
+    returns-5
+    returns-6)

@@ -1,0 +1,81 @@
+-- The table of "When no figure is given" of document 01, numbers 1 to 9, row by row: when an image is refused, for what and at which
+-- place. No order of steps is in it: each condition names what comes before it. proofs/Reasons.antt proves that the verdict is a
+-- refusal for r at a place if and only if `Condition s r place`. Definitions only.
+use mathlib.Core.Path.{_≡_}
+use mathlib.Core.Bool.{true, false}
+use mathlib.Core.List.{List}
+use Prim.Native.Nat.{ℕ, suc, _+_, _≤_, _<_}
+use lib.ListN.{length}
+use Rattle.runs.specs.Nodes.{depth, visits}
+use Rattle.image.specs.Bytes.{byteAt, wordAt}
+use Rattle.image.specs.Fields.{tagOk, lengthOk, valueOk, childrenOk, busOf}
+use Rattle.image.specs.Nodes.{fieldAt, treeAt}
+use Rattle.image.specs.declared.Task.{Task}
+use Rattle.image.specs.declared.Refusal.{Refusal}
+use Rattle.image.specs.declared.Refusal.the-variants.{Cut, Tag, Full, Length, Value, Forward, Unfinished, Deep, Long}
+
+-- of the field with k fields before it: its tag, the length of its body, and where the body stands
+abbrev pub tagAt : List ℕ → ℕ → ℕ
+tagAt s k = byteAt s (fieldAt s k)
+
+abbrev pub lengthAt : List ℕ → ℕ → ℕ
+lengthAt s k = wordAt s (fieldAt s k + 1)
+
+abbrev pub bodyAt : List ℕ → ℕ → ℕ
+bodyAt s k = fieldAt s k + 3
+
+-- none of 1 to 6 holds of it
+pub record GoodField (s : List ℕ) (k : ℕ) : Type 0 where
+  pub head : fieldAt s k + 3 ≤ length s
+  pub tag : tagOk k (tagAt s k) ≡ true
+  pub room : k < 258
+  pub len : lengthOk (tagAt s k) (lengthAt s k) ≡ true
+  pub body : bodyAt s k + lengthAt s k ≤ length s
+  pub value : valueOk s (tagAt s k) (bodyAt s k) (lengthAt s k) ≡ true
+  pub children : childrenOk s (tagAt s k) (bodyAt s k) (lengthAt s k) k ≡ true
+
+-- the n fields from the front are good; and they fill the image
+abbrev pub Passed : List ℕ → ℕ → Type 0
+Passed s n = (k : ℕ) → k < n → GoodField s k
+
+pub record Complete (s : List ℕ) (n : ℕ) : Type 0 where
+  pub passed : Passed s n
+  pub ends : fieldAt s n ≡ length s
+
+pub data Condition (s : List ℕ) : Refusal → ℕ → Type 0 where
+  -- 1: "1 or 2 bytes left where a field's head should stand"
+  head-cut : (k : ℕ) → Passed s k → fieldAt s k < length s → length s < fieldAt s k + 3 → Condition s Cut (fieldAt s k)
+  -- 2: "the first field's tag is not 1, the second's not 2, or a later one's not 3 to 7"
+  wrong-tag : (k : ℕ) → Passed s k → fieldAt s k + 3 ≤ length s → tagOk k (tagAt s k) ≡ false → Condition s Tag (fieldAt s k)
+  -- 3: "a 257th node field", which has 258 fields before it
+  one-more : Passed s 258 → fieldAt s 258 + 3 ≤ length s → tagOk 258 (tagAt s 258) ≡ true → Condition s Full (fieldAt s 258)
+  -- 4: "body length not in the tag's row"
+  wrong-length : (k : ℕ) → Passed s k → fieldAt s k + 3 ≤ length s → tagOk k (tagAt s k) ≡ true → k < 258
+      → lengthOk (tagAt s k) (lengthAt s k) ≡ false → Condition s Length (fieldAt s k)
+  -- 1: "fewer bytes left than its length for its body"
+  body-cut : (k : ℕ) → Passed s k → fieldAt s k + 3 ≤ length s → tagOk k (tagAt s k) ≡ true → k < 258
+      → lengthOk (tagAt s k) (lengthAt s k) ≡ true → length s < bodyAt s k + lengthAt s k → Condition s Cut (fieldAt s k)
+  -- 5: "a number that breaks its row's rules, order and products included; child numbers are left to 6"
+  wrong-value : (k : ℕ) → Passed s k → fieldAt s k + 3 ≤ length s → tagOk k (tagAt s k) ≡ true → k < 258
+      → lengthOk (tagAt s k) (lengthAt s k) ≡ true → bodyAt s k + lengthAt s k ≤ length s
+      → valueOk s (tagAt s k) (bodyAt s k) (lengthAt s k) ≡ false → Condition s Value (fieldAt s k)
+  -- 6: "a child number not below the node's own"
+  not-below : (k : ℕ) → Passed s k → fieldAt s k + 3 ≤ length s → tagOk k (tagAt s k) ≡ true → k < 258
+      → lengthOk (tagAt s k) (lengthAt s k) ≡ true → bodyAt s k + lengthAt s k ≤ length s
+      → valueOk s (tagAt s k) (bodyAt s k) (lengthAt s k) ≡ true
+      → childrenOk s (tagAt s k) (bodyAt s k) (lengthAt s k) k ≡ false → Condition s Forward (fieldAt s k)
+  -- 7: "the image ends, between fields, before a node field"
+  no-node : (n : ℕ) → Complete s n → n < 3 → Condition s Unfinished (length s)
+  -- 8: "entry's depth above 24"; the entry of an image of n + 3 fields is node n
+  too-deep : (n : ℕ) → Complete s (n + 3) → 24 < depth (treeAt s n) → Condition s Deep (length s)
+  -- 9: "entry's visits above 100,000"
+  too-long : (n : ℕ) → Complete s (n + 3) → depth (treeAt s n) ≤ 24 → 100000 < visits (treeAt s n) → Condition s Long (length s)
+
+-- "an image is accepted when none holds": the good fields fill it, the last node is the entry, and the task is what they say
+pub record Accepting (s : List ℕ) (t : Task) : Type 0 where
+  pub complete : Complete s (t .nodes + 2)
+  pub last : t .nodes ≡ suc (t .entry)
+  pub shallow : depth (treeAt s (t .entry)) ≤ 24
+  pub short : visits (treeAt s (t .entry)) ≤ 100000
+  pub bus : t .bus ≡ busOf s
+  pub starts : t .starts ≡ wordAt s 7

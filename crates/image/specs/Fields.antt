@@ -1,0 +1,104 @@
+-- One field of an image: the rows of the table in "The task image" of document 01, and numbers 1 to 6 of "When no figure is given".
+-- Definitions only.
+use mathlib.Core.Bool.{Bool, true, false, not, _&&_}
+use mathlib.Core.List.{List}
+use Prim.Native.Nat.{ℕ, zero, suc, _+_, _-_, _*_, _/_, _%_}
+use lib.ListN.{length}
+use lib.Dec.{eqb, leb, ltb}
+use Rattle.image.specs.Bytes.{byteAt, wordAt}
+use Rattle.bus.specs.declared.Bus.{Bus}
+use Rattle.image.specs.declared.Refusal.{Refusal}
+use Rattle.image.specs.declared.Refusal.the-variants.{Cut, Tag, Full, Length, Value, Forward}
+use Rattle.image.specs.declared.fields.Judgement.{Judgement}
+use Rattle.image.specs.declared.fields.Judgement.the-variants.{Good, Bad}
+
+-- n is from low to high; and even besides
+abbrev pub within : ℕ → ℕ → ℕ → Bool
+within low high n = leb low n && leb n high
+
+abbrev pub evenWithin : ℕ → ℕ → ℕ → Bool
+evenWithin low high n = within low high n && eqb (n % 2) 0
+
+-- a where the test holds, and else b
+abbrev pub choose : Bool → Bool → Bool → Bool
+choose true a b = a
+choose false a b = b
+
+-- "Field 1 comes first, field 2 second, then 1 to 256 node fields (tags 3 to 7)": the tag of the field with `index` fields before it
+unfoldable pub tagOk : ℕ → ℕ → Bool
+tagOk index tag = choose (eqb index 0) (eqb tag 1) (choose (eqb index 1) (eqb tag 2) (within 3 7 tag))
+
+-- "Body length", row by row
+unfoldable pub lengthOk : ℕ → ℕ → Bool
+lengthOk tag n =
+    choose (eqb tag 1) (eqb n 3)
+    (choose (eqb tag 2) (within 1 256 n)
+    (choose (eqb tag 3) (eqb n 4)
+    (choose (eqb tag 4) (eqb n 3)
+    (choose (eqb tag 5) (evenWithin 2 32 n)
+    (choose (eqb tag 6) (evenWithin 4 16 n)
+    (choose (eqb tag 7) (eqb n 6) false))))))
+
+-- row 1: "cores 2 to 16, slot 1 to 128, core number below cores; cores × slot at most 256"
+unfoldable pub busOk : ℕ → ℕ → ℕ → Bool
+busOk cores slot core = within 2 16 cores && (within 1 128 slot && (ltb core cores && leb (cores * slot) 256))
+
+-- row 2: "start offsets, strictly ascending, each below P": the n bytes from a place on, the first of them at least `least`
+unfoldable pub startsOk : List ℕ → ℕ → ℕ → ℕ → ℕ → Bool
+startsOk s place zero least period = true
+startsOk s place (suc n) least period =
+    leb least (byteAt s place) && (ltb (byteAt s place) period && startsOk s (place + 1) n (byteAt s place + 1) period)
+
+-- row 3: "0 to 65,535, lowest ≤ highest, difference at most 63"
+unfoldable pub plainOk : ℕ → ℕ → Bool
+plainOk lowest highest = leb highest 65535 && (leb lowest highest && leb (highest - lowest) 63)
+
+-- row 4: "kind (1 may access, 2 always accesses)", "1 ≤ lowest ≤ highest ≤ slot"
+unfoldable pub blockOk : ℕ → ℕ → ℕ → ℕ → Bool
+blockOk kind lowest highest slot = within 1 2 kind && (leb 1 lowest && (leb lowest highest && leb highest slot))
+
+-- row 7: "least ≤ greatest ≤ 10,000"
+unfoldable pub loopOk : ℕ → ℕ → Bool
+loopOk least greatest = leb least greatest && leb greatest 10000
+
+-- the bus of field 1, whose body stands at place 3
+abbrev pub busOf : List ℕ → Bus
+busOf s = record { cores = byteAt s 3; slot = byteAt s 4; core = byteAt s 5 }
+
+-- the row's rules for the body of n bytes that stands at a place; rows 5 and 6 have child numbers alone, "left to 6"
+unfoldable pub valueOk : List ℕ → ℕ → ℕ → ℕ → Bool
+valueOk s tag body n =
+    choose (eqb tag 1) (busOk (byteAt s body) (byteAt s (body + 1)) (byteAt s (body + 2)))
+    (choose (eqb tag 2) (startsOk s body n 0 (busOf s .cores * busOf s .slot))
+    (choose (eqb tag 3) (plainOk (wordAt s body) (wordAt s (body + 2)))
+    (choose (eqb tag 4) (blockOk (byteAt s body) (byteAt s (body + 1)) (byteAt s (body + 2)) (busOf s .slot))
+    (choose (eqb tag 7) (loopOk (wordAt s body) (wordAt s (body + 2))) true))))
+
+-- the n child numbers from a place on are each below that of the node naming them; node i is the field with i + 2 fields before it
+unfoldable pub below : List ℕ → ℕ → ℕ → ℕ → Bool
+below s place zero index = true
+below s place (suc n) index = ltb (wordAt s place + 2) index && below s (place + 2) n index
+
+-- rows 5, 6 and 7: the body is child numbers, and a loop's third number is one
+unfoldable pub childrenOk : List ℕ → ℕ → ℕ → ℕ → ℕ → Bool
+childrenOk s tag body n index =
+    choose (within 5 6 tag) (below s body (n / 2) index)
+    (choose (eqb tag 7) (below s (body + 4) 1 index) true)
+
+-- refused for r where the test holds, and else as the rest says
+abbrev pub refuse : Bool → Refusal → Judgement → Judgement
+refuse true r rest = Bad r
+refuse false r rest = rest
+
+-- "Within one the order is: head cut, 2, 3, 4, body cut, 5, 6." The field at a place, `index` fields standing before it; a good
+-- one gives the place of the next. The node fields are those from index 2 on, so the 257th has index 258.
+unfoldable pub fieldOf : List ℕ → ℕ → ℕ → Judgement
+fieldOf s at index =
+    refuse (ltb (length s - at) 3) Cut
+    (refuse (not (tagOk index (byteAt s at))) Tag
+    (refuse (leb 258 index) Full
+    (refuse (not (lengthOk (byteAt s at) (wordAt s (at + 1)))) Length
+    (refuse (ltb (length s - at - 3) (wordAt s (at + 1))) Cut
+    (refuse (not (valueOk s (byteAt s at) (at + 3) (wordAt s (at + 1)))) Value
+    (refuse (not (childrenOk s (byteAt s at) (at + 3) (wordAt s (at + 1)) index)) Forward
+    (Good (at + 3 + wordAt s (at + 1)))))))))

@@ -1,0 +1,97 @@
+-- The verdict on an image (document 01, "When no figure is given"): fields from the front, then 7, 8, 9. Definitions only.
+use mathlib.Core.Bool.{Bool, true, false}
+use mathlib.Core.List.{List}
+use Prim.Native.Nat.{ℕ, zero, suc, _+_, _-_}
+use Prim.Native.String.{String}
+use lib.ListN.{length}
+use lib.Dec.{leb, ltb}
+use Rattle.runs.specs.Nodes.{depth, visits}
+use Rattle.runs.specs.Runs.{Task as RunTask}
+use Rattle.image.specs.Bytes.{wordAt}
+use Rattle.image.specs.Fields.{fieldOf, busOf}
+use Rattle.image.specs.Nodes.{treeAt, taskOf}
+use Rattle.image.specs.declared.Refusal.{Refusal}
+use Rattle.image.specs.declared.Refusal.the-variants.{Cut, Tag, Full, Length, Value, Forward, Unfinished, Deep, Long, Table}
+use Rattle.image.specs.declared.fields.Judgement.{Judgement}
+use Rattle.image.specs.declared.fields.Judgement.the-variants.{Good, Bad}
+use Rattle.image.specs.declared.fields.End.{End}
+use Rattle.image.specs.declared.fields.End.the-variants.{Stopped, Whole}
+use Rattle.image.specs.declared.Verdict.{Verdict}
+use Rattle.image.specs.declared.Verdict.the-variants.{Accepted, Refused}
+
+-- "Number"
+abbrev pub numberOf : Refusal → ℕ
+numberOf Cut = 1
+numberOf Tag = 2
+numberOf Full = 3
+numberOf Length = 4
+numberOf Value = 5
+numberOf Forward = 6
+numberOf Unfinished = 7
+numberOf Deep = 8
+numberOf Long = 9
+numberOf Table = 10
+
+-- "Word"
+abbrev pub wordOf : Refusal → String
+wordOf Cut = "cut"
+wordOf Tag = "tag"
+wordOf Full = "full"
+wordOf Length = "length"
+wordOf Value = "value"
+wordOf Forward = "forward"
+wordOf Unfinished = "unfinished"
+wordOf Deep = "deep"
+wordOf Long = "long"
+wordOf Table = "table"
+
+abbrev pub pickEnd : Bool → End → End → End
+pickEnd true a b = a
+pickEnd false a b = b
+
+-- a field that is refused stops the scan at its place; a good one leads on to the next
+abbrev pub onField : ℕ → (ℕ → End) → Judgement → End
+onField at on (Good next) = on next
+onField at on (Bad r) = Stopped r at
+
+-- "Fields are judged from the front": from a place on, `index` fields standing before it, the first that is refused or the number of
+-- fields. `fuel` is more than the fields that may still come: a 259th is refused, so it never runs out (`scan-says` of proofs/Says.antt).
+unfoldable pub scanFrom : ℕ → List ℕ → ℕ → ℕ → End
+scanFrom zero s at index = Whole index
+scanFrom (suc fuel) s at index =
+    pickEnd (leb (length s) at) (Whole index) (onField at (λ next. scanFrom fuel s next (index + 1)) (fieldOf s at index))
+
+unfoldable pub scan : List ℕ → End
+scan s = scanFrom 259 s 0 0
+
+abbrev pub refuseAll : Bool → Refusal → ℕ → Verdict → Verdict
+refuseAll true r place rest = Refused r place
+refuseAll false r place rest = rest
+
+-- "Then 7, 8, 9", of an image whose n fields are all good: n - 2 nodes, of which the last, number n - 3, is the entry
+unfoldable pub wholeOf : List ℕ → ℕ → Verdict
+wholeOf s n =
+    refuseAll (ltb n 3) Unfinished (length s)
+    (refuseAll (ltb 24 (depth (treeAt s (n - 3)))) Deep (length s)
+    (refuseAll (ltb 100000 (visits (treeAt s (n - 3)))) Long (length s)
+    (Accepted (record { bus = busOf s; starts = wordAt s 7; nodes = n - 2; entry = n - 3 }))))
+
+abbrev pub onEnd : List ℕ → End → Verdict
+onEnd s (Stopped r at) = Refused r at
+onEnd s (Whole n) = wholeOf s n
+
+-- the verdict
+unfoldable pub judged : List ℕ → Verdict
+judged s = onEnd s (scan s)
+
+-- the verdict in the document's terms: the task that the image says, or the number, the word and the place of a refusal
+pub data Outcome : Type 0 where
+  accepted : (task : RunTask) → Outcome
+  refused : (number : ℕ) (word : String) (place : ℕ) → Outcome
+
+abbrev pub outcomeOf : List ℕ → Verdict → Outcome
+outcomeOf s (Accepted t) = accepted (taskOf s t)
+outcomeOf s (Refused r place) = refused (numberOf r) (wordOf r) place
+
+abbrev pub outcome : List ℕ → Outcome
+outcome s = outcomeOf s (judged s)

@@ -1,0 +1,83 @@
+-- What an image's fields mean to crate `runs`: its nodes by number, its start offsets, its bus (document 01, "The task image").
+-- The image's bytes are the only source of a task's nodes. Definitions only.
+use mathlib.Core.Bool.{Bool, true, false}
+use mathlib.Core.List.{List}
+use Prim.Native.Nat.{ℕ, zero, suc, _+_, _/_}
+use lib.Dec.{eqb}
+use Rattle.runs.specs.Slots.{equal}
+use Rattle.runs.specs.Nodes.{Kind as RunKind, may, always, Node as RunNode, Tree, Trees, tree, trees}
+use Rattle.runs.specs.Runs.{Task as RunTask}
+use Rattle.image.specs.Bytes.{byteAt, wordAt, bytes, words}
+use Rattle.bus.specs.Waits.{slotsOf}
+use Rattle.image.specs.declared.nodes.Kind.{Kind}
+use Rattle.image.specs.declared.nodes.Kind.the-variants.{May, Always}
+use Rattle.image.specs.declared.nodes.Node.{Node}
+use Rattle.image.specs.declared.nodes.Node.the-variants.{Plain, Bus as Block, Sequence, Branch, Loop}
+use Rattle.image.specs.declared.Task.{Task}
+
+-- "Every field is a one-byte tag, a two-byte length of its body, and the body": where the field with k fields before it stands
+unfoldable pub fieldAt : List ℕ → ℕ → ℕ
+fieldAt s zero = 0
+fieldAt s (suc k) = fieldAt s k + 3 + wordAt s (fieldAt s k + 1)
+
+abbrev pub pickKind : Bool → Kind → Kind → Kind
+pickKind true a b = a
+pickKind false a b = b
+
+-- "1 may access, 2 always accesses"
+abbrev pub kindOf : ℕ → Kind
+kindOf kind = pickKind (eqb kind 1) May Always
+
+abbrev pub pickNode : Bool → Node → Node → Node
+pickNode true a b = a
+pickNode false a b = b
+
+-- "Body", rows 3 to 7: the node of a tag whose body of n bytes stands at a place
+unfoldable pub nodeFrom : List ℕ → ℕ → ℕ → ℕ → Node
+nodeFrom s tag body n =
+    pickNode (eqb tag 3) (Plain (record { lowest = wordAt s body; highest = wordAt s (body + 2) }))
+    (pickNode (eqb tag 4)
+    (Block (record { kind = kindOf (byteAt s body); lowest = byteAt s (body + 1); highest = byteAt s (body + 2) }))
+    (pickNode (eqb tag 5) (Sequence (record { place = body; count = n / 2 }))
+    (pickNode (eqb tag 6) (Branch (record { place = body; count = n / 2 }))
+    (Loop (record { least = wordAt s body; greatest = wordAt s (body + 2); body = wordAt s (body + 4) })))))
+
+-- the node whose field stands at a place, as the code has it: child numbers stay in the image
+abbrev pub nodeOf : List ℕ → ℕ → Node
+nodeOf s at = nodeFrom s (byteAt s at) (at + 3) (wordAt s (at + 1))
+
+-- ---- in the words of `runs`
+
+-- child numbers, "two bytes each"
+abbrev pub children : List ℕ → ℕ → ℕ → List ℕ
+children s place n = words s place n
+
+abbrev pub kindMeant : Kind → RunKind
+kindMeant May = may
+kindMeant Always = always
+
+unfoldable pub meant : List ℕ → Node → RunNode
+meant s (Plain p) = RunNode.plain (p .lowest) (p .highest)
+meant s (Block b) = RunNode.bus (kindMeant (b .kind)) (b .lowest) (b .highest)
+meant s (Sequence c) = RunNode.sequence (children s (c .place) (c .count))
+meant s (Branch c) = RunNode.branch (children s (c .place) (c .count))
+meant s (Loop l) = RunNode.loop (l .least) (l .greatest) (l .body)
+
+-- "node fields, numbered from 0": node n has n + 2 fields before it
+unfoldable pub nodeAt : List ℕ → ℕ → RunNode
+nodeAt s n = meant s (nodeOf s (fieldAt s (n + 2)))
+
+-- its tree, with depth and visits as `runs` has them; and the trees of n children whose numbers stand from a place on
+abbrev pub treeAt : List ℕ → ℕ → Tree
+treeAt s n = tree (nodeAt s) n
+
+abbrev pub childTrees : List ℕ → ℕ → ℕ → Trees
+childTrees s place n = trees (λ k. tree (nodeAt s) k) (children s place n)
+
+-- field 2: field 1 has six bytes, so its length stands at 7 and its body at 9
+abbrev pub startsOf : List ℕ → List ℕ
+startsOf s = bytes s 9 (wordAt s 7)
+
+-- what an accepted image says: "The last node is the entry."
+abbrev pub taskOf : List ℕ → Task → RunTask
+taskOf s t = record { bus = equal (slotsOf (t .bus)); starts = startsOf s; nodeAt = nodeAt s; entry = t .entry }

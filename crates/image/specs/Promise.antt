@@ -1,0 +1,69 @@
+-- What `judge` promises, and what holds of an accepted image. Definitions only.
+use mathlib.Core.Path.{_≡_}
+use mathlib.Core.List.{List}
+use Prim.Native.Nat.{ℕ, suc, _+_, _-_, _*_, _≤_, _<_}
+use lib.ListN.{length, getD}
+use Rattle.runs.specs.Nodes.{depth, visits}
+use Rattle.image.specs.Bytes.{byteAt, wordAt}
+use Rattle.image.specs.Fields.{busOf}
+use Rattle.image.specs.Nodes.{fieldAt, nodeOf, treeAt}
+use Rattle.image.specs.Judged.{judged, outcomeOf, outcome}
+use Rattle.image.specs.Conditions.{Passed, Complete, Condition}
+use Rattle.bus.specs.Waits.{Ranges}
+use Rattle.image.specs.declared.nodes.Node.{Node}
+use Rattle.image.specs.declared.nodes.Node.the-variants.{Plain, Bus as Block, Sequence, Branch, Loop}
+use Rattle.image.specs.declared.Refusal.{Refusal}
+use Rattle.image.specs.declared.Task.{Task}
+use Rattle.image.specs.declared.Verdict.{Verdict}
+use Rattle.image.specs.declared.Verdict.the-variants.{Accepted, Refused}
+
+-- row 2: the n start offsets from place 9 on
+pub record Starts (s : List ℕ) (n period : ℕ) : Type 0 where
+  pub some : 1 ≤ n
+  pub few : n ≤ 256
+  pub low : (i : ℕ) → i < n → byteAt s (9 + i) < period
+  pub ascend : (i j : ℕ) → i < j → j < n → byteAt s (9 + i) < byteAt s (9 + j)
+
+-- the n child numbers from a place on are below `own`
+abbrev pub NamesBelow : List ℕ → ℕ → ℕ → ℕ → Type 0
+NamesBelow s place n own = (i : ℕ) → i < n → wordAt s (place + 2 * i) < own
+
+-- rows 3 to 7: the numbers of the node with the number `own`
+unfoldable pub Fine : List ℕ → ℕ → Node → Type 0
+Fine s own (Plain p) = (p .lowest ≤ p .highest) × (p .highest ≤ 65535) × (p .highest - p .lowest ≤ 63)
+Fine s own (Block b) = (1 ≤ b .lowest) × (b .lowest ≤ b .highest) × (b .highest ≤ byteAt s 4)
+Fine s own (Sequence c) = (1 ≤ c .count) × (c .count ≤ 16) × (c .place + 2 * c .count ≤ length s) × NamesBelow s (c .place) (c .count) own
+Fine s own (Branch c) = (2 ≤ c .count) × (c .count ≤ 8) × (c .place + 2 * c .count ≤ length s) × NamesBelow s (c .place) (c .count) own
+Fine s own (Loop l) = (l .least ≤ l .greatest) × (l .greatest ≤ 10000) × (l .body < own)
+
+-- what holds of an accepted image, its task and the places beside it
+pub record Sound (s : List ℕ) (t : Task) (places : List ℕ) : Type 0 where
+  pub bus-is : t .bus ≡ busOf s
+  pub bus : Ranges (t .bus)
+  pub starts-is : t .starts ≡ wordAt s 7
+  pub starts : Starts s (t .starts) (t .bus .cores * t .bus .slot)
+  pub some : 1 ≤ t .nodes
+  pub few : t .nodes ≤ 256
+  pub last : t .nodes ≡ suc (t .entry)
+  pub complete : Complete s (t .nodes + 2)
+  pub placed : (k : ℕ) → k < t .nodes → getD places k 0 ≡ fieldAt s (k + 2)
+  pub inside : (k : ℕ) → k < t .nodes → fieldAt s (k + 2) ≤ length s
+  pub fine : (k : ℕ) → k < t .nodes → Fine s k (nodeOf s (fieldAt s (k + 2)))
+  pub shallow : depth (treeAt s (t .entry)) ≤ 24
+  pub short : visits (treeAt s (t .entry)) ≤ 100000
+
+-- node n's field stands at a place, and it and all before it are good
+pub record Standing (s : List ℕ) (n at : ℕ) : Type 0 where
+  pub passed : Passed s (n + 3)
+  pub place : at ≡ fieldAt s (n + 2)
+
+-- the promise of `judge`. Of a refused image the places are left free.
+pub record Judging (s : List ℕ) (verdict : Verdict) (places : List ℕ) : Type 0 where
+  -- the verdict is the definition's, and so is the outcome in the document's numbers
+  pub is : verdict ≡ judged s
+  pub numbered : outcomeOf s verdict ≡ outcome s
+  -- refused if and only if the row's condition holds
+  pub because : (r : Refusal) (place : ℕ) → verdict ≡ Refused r place → Condition s r place
+  pub whenever : (r : Refusal) (place : ℕ) → Condition s r place → verdict ≡ Refused r place
+  -- what an accepted image keeps
+  pub sound : (t : Task) → verdict ≡ Accepted t → Sound s t places

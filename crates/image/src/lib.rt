@@ -1,0 +1,121 @@
+// image: judging a task image (document 01, 'The task image' and 'When no figure is given').
+//
+// `judge` takes any bytes, asks nothing of its caller and promises `Judging` of specs/Promise.antt: the verdict is the one that the
+// definition `judged` names, in the document's numbers and places too; an image is refused for a reason at a place if and only if the
+// condition of that row of the table holds there; and an accepted image keeps every rule of its rows, with the place of each node
+// beside the verdict. For a refused image the places are left free.
+//
+// specs/ has the definitions, in the document's order: Bytes, Fields (the rows, and numbers 1 to 6), Nodes (what a node field means
+// to crate `runs`), Judged (7 to 9, and the verdict), Conditions (the table, row by row), Promise; Inner is between functions of this crate.
+// src/: read (bytes), rows (the rows' rules), fields (the scan), nodes (decoding), weigh (depth and visits), and the verdict here.
+ghost use mathlib.Core.Path.{_≡_};
+ghost use Rattle.image.specs.Judged.{wholeOf, numberOf};
+ghost use Rattle.image.specs.Conditions.{Complete};
+ghost use Rattle.image.specs.Promise.{Judging};
+ghost use Rattle.image.specs.Inner.{Placed};
+use crate::fields::End;
+use crate::fields::fields;
+use crate::read::bus_at;
+use crate::read::word;
+use crate::weigh::weights;
+use bus::Bus;
+
+mod fields;
+pub mod nodes;
+pub mod read;
+mod rows;
+mod weigh;
+
+// Why no figure is given: the words of the table. Judging answers the first nine; `Table` is for a caller that lends a table.
+pub enum Refusal {
+    Cut,
+    Tag,
+    Full,
+    Length,
+    Value,
+    Forward,
+    Unfinished,
+    Deep,
+    Long,
+    Table,
+}
+
+// An accepted image: the bus of field 1, the number of start offsets in field 2, the number of nodes, and the last of them.
+pub struct Task {
+    pub bus: Bus,
+    pub starts: usize,
+    pub nodes: usize,
+    pub entry: usize,
+}
+
+pub enum Verdict {
+    Accepted(Task),
+    Refused(Refusal, usize),
+}
+
+// The verdict, and of an accepted image the place of each node's field.
+pub struct Judged {
+    pub verdict: Verdict,
+    pub places: [usize; 256],
+}
+
+// The number that the table gives a refusal.
+pub fn number(r: Refusal) -> usize
+    ensures { λ n. ⌜ n ≡ numberOf r ⌝ }
+{
+    match r {
+        Refusal::Cut => 1,
+        Refusal::Tag => 2,
+        Refusal::Full => 3,
+        Refusal::Length => 4,
+        Refusal::Value => 5,
+        Refusal::Forward => 6,
+        Refusal::Unfinished => 7,
+        Refusal::Deep => 8,
+        Refusal::Long => 9,
+        Refusal::Table => 10,
+    }
+}
+
+// The verdict on an image whose `count` fields are good and fill it: 7, 8, 9, or accepted.
+fn whole(image: &[u8], places: &[usize; 256], count: usize) -> Verdict
+    requires { ⌜ (Complete (now image) count) × (Placed (now image) count (now places)) ⌝ }
+    ensures { λ r. ⌜ r ≡ wholeOf (now (image .entry)) count ⌝ }
+{
+    if count < 3 {
+        return Verdict::Refused(Refusal::Unfinished, image.len());
+    }
+    let w = weights(image, places, count - 2);
+    if 24 < w.depth {
+        return Verdict::Refused(Refusal::Deep, image.len());
+    }
+    if 100000 < w.visits {
+        return Verdict::Refused(Refusal::Long, image.len());
+    }
+    let bus = bus_at(image);
+    Verdict::Accepted(Task {
+        bus,
+        starts: word(image, 7),
+        nodes: count - 2,
+        entry: count - 3,
+    })
+}
+
+// The verdict on any bytes.
+pub fn judge(image: &[u8]) -> Judged
+    ensures { λ r. ⌜ Judging (now (image .entry)) (r .verdict) (r .places) ⌝ }
+{
+    let scan = fields(image);
+    let places = scan.places;
+    let end = scan.end;
+    match end {
+        End::Stopped(r, at) => Judged {
+            verdict: Verdict::Refused(r, at),
+            places,
+        },
+        End::Whole(count) => Judged {
+            verdict: whole(image, &places, count),
+            places,
+        },
+    }
+}

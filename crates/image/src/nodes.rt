@@ -1,0 +1,87 @@
+// A node is one of five kinds, each with its own numbers. Child numbers stay in the image.
+ghost use mathlib.Core.Path.{_≡_};
+ghost use Prim.Native.Nat.{_≤_};
+ghost use lib.ListN.{length};
+ghost use Rattle.image.specs.Nodes.{kindOf, nodeOf};
+use crate::read::byte;
+use crate::read::word;
+
+// A bus block's kind: 1 may access, 2 always accesses.
+pub enum Kind {
+    May,
+    Always,
+}
+
+pub struct Plain {
+    pub lowest: usize,
+    pub highest: usize,
+}
+
+pub struct BusBlock {
+    pub kind: Kind,
+    pub lowest: usize,
+    pub highest: usize,
+}
+
+// Where child numbers stand in the image, two bytes each, and how many they are.
+pub struct Children {
+    pub place: usize,
+    pub count: usize,
+}
+
+pub struct Loop {
+    pub least: usize,
+    pub greatest: usize,
+    pub body: usize,
+}
+
+pub enum Node {
+    Plain(Plain),
+    Bus(BusBlock),
+    Sequence(Children),
+    Branch(Children),
+    Loop(Loop),
+}
+
+fn kind_of(kind: usize) -> Kind
+    ensures { λ r. ⌜ r ≡ kindOf kind ⌝ }
+{
+    match kind {
+        1 => Kind::May,
+        _ => Kind::Always,
+    }
+}
+
+// The node whose field's tag stands at a place.
+pub fn node_at(image: &[u8], at: usize) -> Node
+    requires { ⌜ at ≤ length (now image) ⌝ }
+    ensures { λ r. ⌜ r ≡ nodeOf (now (image .entry)) at ⌝ }
+{
+    let tag = byte(image, at);
+    let len = word(image, at + 1);
+    let body = at + 3;
+    match tag {
+        3 => Node::Plain(Plain {
+            lowest: word(image, body),
+            highest: word(image, body + 2),
+        }),
+        4 => Node::Bus(BusBlock {
+            kind: kind_of(byte(image, body)),
+            lowest: byte(image, body + 1),
+            highest: byte(image, body + 2),
+        }),
+        5 => Node::Sequence(Children {
+            place: body,
+            count: len / 2,
+        }),
+        6 => Node::Branch(Children {
+            place: body,
+            count: len / 2,
+        }),
+        _ => Node::Loop(Loop {
+            least: word(image, body),
+            greatest: word(image, body + 2),
+            body: word(image, body + 4),
+        }),
+    }
+}

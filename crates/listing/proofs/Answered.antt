@@ -1,0 +1,34 @@
+-- The lines of an answer that equals its definition are the listing.
+use mathlib.Core.Path.{_≡_, refl, sym, _∙_, ap, ap₂}
+use mathlib.Core.List.{List}
+use lib.ListN.{length}
+use native.Mathlib.Omega.{arith}
+use Prim.Native.Nat.{ℕ, _≤_}
+use Rattle.image.specs.Judged.{numberOf}
+use Rattle.image.specs.declared.Refusal.{Refusal}
+use Rattle.figures.specs.declared.Totals.{Totals}
+use Rattle.figures.specs.declared.Answer.{Answer}
+use Rattle.figures.specs.declared.Answer.the-variants.{Given, Refused}
+use Rattle.figures.specs.Answers.{Result, resultOf, answer, tableAfter}
+use Rattle.figures.specs.Promise.{Equal}
+use Rattle.lines.specs.declared.Written.{Written}
+use Rattle.lines.specs.Text.{figureLines}
+use Rattle.lines.specs.Buffer.{listed, refusedListed, figuresListed}
+use Rattle.lines.proofs.Answers.{figures-listed}
+use Rattle.listing.specs.Listings.{linesOf, lent, listingOf}
+
+module _ (s table : List ℕ) (a : Answer) (e : Equal s lent a table) (out : List ℕ) where
+  lines : listed (listingOf s) out ≡ listed (linesOf (resultOf a) table) out
+  unfolding listingOf
+  lines = ap₂ (λ (r : Result) (t : List ℕ). listed (linesOf r t) out) (sym (e .result)) (sym (e .table))
+
+  pub lists-refused : (r : Refusal) (n place : ℕ) (w : Written) (after : List ℕ) → a ≡ Refused r place → n ≡ numberOf r
+      → refusedListed n place out ≡ (w, after) → listed (listingOf s) out ≡ (w, after)
+  lists-refused r n place w after g is h =
+      lines ∙ ap (λ (x : Answer). listed (linesOf (resultOf x) table) out) g ∙ ap (λ (m : ℕ). refusedListed m place out) (sym is) ∙ h
+
+  pub lists-given : (f : Totals) (w : Written) (after : List ℕ) → a ≡ Given f → 256 ≤ length table
+      → figuresListed (f .tight) (f .published) (f .exits) 256 table out ≡ (w, after) → listed (listingOf s) out ≡ (w, after)
+  lists-given f w after g long h =
+      lines ∙ ap (λ (x : Answer). listed (linesOf (resultOf x) table) out) g
+      ∙ sym (figures-listed (f .tight) (f .published) (f .exits) 256 table out (omega arith) long) ∙ h

@@ -1,0 +1,25 @@
+// listing: from an image to the bytes that the program `figure` writes (document 01, "The program `figure` reads").
+//
+// `listing` asks nothing of its caller and promises that the answer and the buffer at exit equal a definition over the image's bytes
+// and the buffer at entry: the listing of specs/Listings.antt at the buffer's start and the rest unchanged, or, where the buffer has
+// fewer than 8,192 bytes, `Short` and no change. The program above it only reads and writes.
+ghost use mathlib.Core.Path.{_≡_};
+ghost use Rattle.lines.specs.Buffer.{listed};
+ghost use Rattle.listing.specs.Listings.{listingOf};
+use figures::Answer;
+use lines::Written;
+
+pub fn listing(image: &[u8], out: &mut [u8]) -> Written
+    ensures { λ r. ⌜ listed (listingOf (now (image .entry))) (now (out .entry)) ≡ (r, now (out .exit)) ⌝ }
+{
+    let mut table = [18446744073709551615u64; 256];
+    let answer = figures::figures(image, &mut table);
+    match answer {
+        Answer::Refused(r, place) => lines::list_refused(
+            image::number(r) as u64,
+            place as u64,
+            out,
+        ),
+        Answer::Given(f) => lines::list_figures(f.tight, f.published, f.exits, 256, &table, out),
+    }
+}

@@ -1,0 +1,536 @@
+-- The node walk and the loop unroller call each other; the pair of node number and iterations left falls. Each need is one law of
+-- Children, Parts or Descents.
+use borrow.Author.Needs.{needs}
+use borrow.Fn.Kinds.{In}
+use borrow.Fn.PlainCycle.{Measures, is, falls, and}
+use mathlib.Core.Path.{_≡_, sym, _∙_, ap}
+use mathlib.Core.Bool.{Bool, false, _||_}
+use lib.ListN.{getD}
+use native.Mathlib.Omega.{arith}
+use native.Mathlib.Nat.{add-zero, zero-add, sub-zero}
+use Prim.Native.Nat.{ℕ, _+_, _-_, _*_, _/_, _≤_, _<_, max}
+use Rattle.runs.specs.Slots.{equal}
+use Rattle.runs.specs.Nodes.{visits, visitsAll}
+use Rattle.runs.specs.Figures.{costAll, costAny}
+use Rattle.runs.proofs.Joins.{or-joins}
+use Rattle.bus.specs.Waits.{slotsOf}
+use Rattle.image.specs.Nodes.{treeAt, childTrees}
+use Rattle.image.proofs.Walks.{all-done, any-done}
+use Rattle.exits.specs.Exits.{busPeriod, Within}
+use Rattle.published.specs.Steps.{bits, afterAll, afterAny}
+use Rattle.published.proofs.Joins.{empty-at, empty-within, join-within}
+use Rattle.published.proofs.Parts.{cost-all-done, cost-any-done, none-left, one-left, both-left}
+use Rattle.published.proofs.Children.{outcome-small, child-low, visits-split, child-ready, child-small, next-in-order, next-cost, next-arm, next-arm-cost}
+use Rattle.published.proofs.Descents.{in-image, in-places, plain-ready, plain-done, block-ready, block-done, sequence-ready, sequence-done, branch-ready, branch-done, body-low, loop-ready, loop-done, one-ready, half-ready, other-ready}
+use Rattle.published.proofs.branch.Reads as branch
+use Rattle.published.proofs.branch.Kinds as branch-kinds
+use Rattle.published.proofs.+branch+sequence+unroll+walk.Lts-branch as branch-lts
+use Rattle.published.proofs.sequence.Reads as sequence
+use Rattle.published.proofs.sequence.Kinds as sequence-kinds
+use Rattle.published.proofs.+branch+sequence+unroll+walk.Lts-sequence as sequence-lts
+use Rattle.published.proofs.unroll.Reads as unroll
+use Rattle.published.proofs.unroll.Kinds as unroll-kinds
+use Rattle.published.proofs.+branch+sequence+unroll+walk.Lts-unroll as unroll-lts
+use Rattle.published.proofs.walk.Reads as walk
+use Rattle.published.proofs.walk.Kinds as walk-kinds
+use Rattle.published.proofs.+branch+sequence+unroll+walk.Lts-walk as walk-lts
+use Rattle.image.proofs.nodes.node_at.Reads as node-at-reads
+use Rattle.image.proofs.read.word.Reads as word-reads
+use Rattle.offsets.proofs.empty.Reads as empty-reads
+use Rattle.offsets.proofs.join.Reads as join-reads
+use Rattle.published.proofs.larger.Reads as larger-reads
+use Rattle.published.proofs.before_first.Reads as before-first-reads
+use Rattle.published.proofs.block_outcome.Reads as block-outcome-reads
+use Rattle.published.proofs.joined.Reads as joined-reads
+use Rattle.published.proofs.plain_outcome.Reads as plain-outcome-reads
+use Rattle.published.proofs.+branch+sequence+unroll+walk.{statement}
+use Rattle.published.proofs.+branch+sequence+unroll+walk.Tie.{close}
+
+-- ---- measures: the node number, and of a loop the iterations left
+
+abbrev μ-branch : Measures 2 branch-kinds.ps ℕ
+μ-branch κs a = 32768 * a .1 .1 .1 .0
+
+abbrev μ-sequence : Measures 2 sequence-kinds.ps ℕ
+μ-sequence κs a = 32768 * a .1 .1 .1 .0
+
+abbrev μ-unroll : Measures 2 unroll-kinds.ps ℕ
+μ-unroll κs a = 32768 * a .1 .1 .1 .0 + 2 + a .1 .1 .1 .1 .1 .1 .0
+
+abbrev μ-walk : Measures 2 walk-kinds.ps ℕ
+μ-walk κs a = 32768 * a .1 .1 .1 .0 + 1
+
+abbrev branch-at : ℕ → In 2 branch-kinds.ps
+branch-at t = and 2 branch-kinds.ps (is 2 branch-kinds.ps μ-branch t) branch.Pre
+
+abbrev branch-below : ℕ → In 2 branch-kinds.ps
+branch-below t = and 2 branch-kinds.ps (falls 2 branch-kinds.ps _<_ μ-branch t) branch.Pre
+
+abbrev sequence-at : ℕ → In 2 sequence-kinds.ps
+sequence-at t = and 2 sequence-kinds.ps (is 2 sequence-kinds.ps μ-sequence t) sequence.Pre
+
+abbrev sequence-below : ℕ → In 2 sequence-kinds.ps
+sequence-below t = and 2 sequence-kinds.ps (falls 2 sequence-kinds.ps _<_ μ-sequence t) sequence.Pre
+
+abbrev unroll-at : ℕ → In 2 unroll-kinds.ps
+unroll-at t = and 2 unroll-kinds.ps (is 2 unroll-kinds.ps μ-unroll t) unroll.Pre
+
+abbrev unroll-below : ℕ → In 2 unroll-kinds.ps
+unroll-below t = and 2 unroll-kinds.ps (falls 2 unroll-kinds.ps _<_ μ-unroll t) unroll.Pre
+
+abbrev walk-at : ℕ → In 2 walk-kinds.ps
+walk-at t = and 2 walk-kinds.ps (is 2 walk-kinds.ps μ-walk t) walk.Pre
+
+abbrev walk-below : ℕ → In 2 walk-kinds.ps
+walk-below t = and 2 walk-kinds.ps (falls 2 walk-kinds.ps _<_ μ-walk t) walk.Pre
+
+-- what the callees ask and give, at the measure t
+abbrev branch-claims : ℕ → branch-lts.Claims
+branch-claims t = (empty-reads.Asked, empty-reads.Learnt, word-reads.Asked, word-reads.Learnt, walk-below t, walk.Post, larger-reads.Asked, larger-reads.Learnt, join-reads.Asked, join-reads.Learnt)
+
+abbrev sequence-claims : ℕ → sequence-lts.Claims
+sequence-claims t = (word-reads.Asked, word-reads.Learnt, walk-below t, walk.Post)
+
+abbrev unroll-claims : ℕ → unroll-lts.Claims
+unroll-claims t = (walk-below t, walk.Post, joined-reads.Asked, joined-reads.Learnt, unroll-below t, unroll.Post)
+
+abbrev walk-claims : ℕ → walk-lts.Claims
+walk-claims t = (
+  node-at-reads.Asked,
+  node-at-reads.Learnt,
+  plain-outcome-reads.Asked,
+  plain-outcome-reads.Learnt,
+  block-outcome-reads.Asked,
+  block-outcome-reads.Learnt,
+  sequence-below t,
+  sequence.Post,
+  branch-below t,
+  branch.Post,
+  before-first-reads.Asked,
+  before-first-reads.Learnt,
+  unroll-below t,
+  unroll.Post,
+)
+
+-- ---- branch
+
+abbrev branch-Inv-loop : branch-lts.InvT-loop
+branch-Inv-loop image places k node s place count cost₀ out₀ i₀ cost out i =
+    (i ≤ count)
+    × (visitsAll (childTrees image (place + 2 * i) (count - i)) ≤ 100000)
+    × Within (busPeriod (k .bus)) out
+    × ((o : ℕ) → o < busPeriod (k .bus)
+    → (getD (bits (k .bus) out) o false || afterAny (k .bus) (childTrees image (place + 2 * i) (count - i)) (bits (k .bus) s) o)
+    ≡ afterAny (k .bus) (childTrees image place count) (bits (k .bus) s) o)
+    × (max cost (costAny (equal (slotsOf (k .bus))) (childTrees image (place + 2 * i) (count - i)) (bits (k .bus) s))
+    ≡ costAny (equal (slotsOf (k .bus))) (childTrees image place count) (bits (k .bus) s))
+
+abbrev branch-μ-loop : branch-lts.MeasureT-loop
+branch-μ-loop image places k node s place count cost₀ out₀ i₀ cost out i = count - i
+
+branch-empty-requires : (t : ℕ) → branch-lts.Need-empty-requires (branch-claims t) (branch-at t) branch.Post branch-Inv-loop branch-μ-loop
+branch-empty-requires t c κs = search needs
+
+branch-loop-holds : (t : ℕ) → branch-lts.Need-loop-holds (branch-claims t) (branch-at t) branch.Post branch-Inv-loop branch-μ-loop
+branch-loop-holds t c =
+    let s = c .before .before in
+    let a = s .args in (
+      omega arith,
+      rw (add-zero (a .c .place), sub-zero (a .c .count)) (s .pre .1 .few),
+      empty-within (a .k .bus) (c .empty .result) (c .empty .ensures),
+      λ o h. rw (add-zero (a .c .place), sub-zero (a .c .count))
+          (ap (λ (z : Bool). z || afterAny (a .k .bus) (childTrees (a .image .now) (a .c .place) (a .c .count)) (bits (a .k .bus) (a .s)) o)
+          (empty-at (a .k .bus) (c .empty .result) (c .empty .ensures) o h)),
+      rw (add-zero (a .c .place), sub-zero (a .c .count)) (omega arith),
+    )
+
+branch-mul-word : (t : ℕ) → branch-lts.Need-mul-word (branch-claims t) (branch-at t) branch.Post branch-Inv-loop branch-μ-loop
+branch-mul-word t c =
+    let s = c .before .before .before .before in
+    omega (arith, s .pre .1 .named .few, s .pre .1 .named .inside)
+
+branch-add-word : (t : ℕ) → branch-lts.Need-add-word (branch-claims t) (branch-at t) branch.Post branch-Inv-loop branch-μ-loop
+branch-add-word t c =
+    let s = c .before .before .before .before in
+    omega (arith, s .pre .1 .named .few, s .pre .1 .named .inside)
+
+branch-word-requires : (t : ℕ) → branch-lts.Need-word-requires (branch-claims t) (branch-at t) branch.Post branch-Inv-loop branch-μ-loop
+branch-word-requires t c κs =
+    let s = c .before .before .before .before in
+    omega (arith, s .pre .1 .named .few, s .pre .1 .named .inside)
+
+branch-walk-requires : (t : ℕ) → branch-lts.Need-walk-requires (branch-claims t) (branch-at t) branch.Post branch-Inv-loop branch-μ-loop
+branch-walk-requires t c κs =
+    let s = c .before .before .before .before .before in
+    let a = s .args in
+    let l = c .before .before .loop in
+    let i< : l .i < a .c .count = omega arith in
+    let low = child-low (a .image .now) (a .k) (a .places .now) (s .pre .1 .walkable) (a .node) (s .pre .1 .low) (a .c .place) (a .c .count) (s .pre .1 .named) (l .i) i< (c .word .result) (c .word .ensures .0) in (
+      omega (arith, s .pre .0, low),
+      child-ready (a .image .now) (a .k) (a .places .now) (s .pre .1 .walkable) (a .node) (s .pre .1 .low) (a .c .place) (a .c .count) (s .pre .1 .named) (l .i) i< (c .word .result) (c .word .ensures .0) (a .s) (l .inv .1) (s .pre .1 .within),
+    )
+
+branch-larger-requires : (t : ℕ) → branch-lts.Need-larger-requires (branch-claims t) (branch-at t) branch.Post branch-Inv-loop branch-μ-loop
+branch-larger-requires t c κs = search needs
+
+branch-join-requires : (t : ℕ) → branch-lts.Need-join-requires (branch-claims t) (branch-at t) branch.Post branch-Inv-loop branch-μ-loop
+branch-join-requires t c κs = search needs
+
+branch-add-i : (t : ℕ) → branch-lts.Need-add-i (branch-claims t) (branch-at t) branch.Post branch-Inv-loop branch-μ-loop
+branch-add-i t c =
+    let s = c .before .before .before .before .before .before .before .before in
+    omega (arith, s .pre .1 .named .few)
+
+branch-loop-less : (t : ℕ) → branch-lts.Need-loop-less (branch-claims t) (branch-at t) branch.Post branch-Inv-loop branch-μ-loop
+branch-loop-less t c = omega arith
+
+branch-loop-again : (t : ℕ) → branch-lts.Need-loop-again (branch-claims t) (branch-at t) branch.Post branch-Inv-loop branch-μ-loop
+branch-loop-again t c =
+    let s = c .before .before .before .before .before .before .before .before in
+    let a = s .args in
+    let l = c .before .before .before .before .before .loop in
+    let i< : l .i < a .c .count = omega arith in
+    let w = c .before .before .before .word in
+    let r = c .before .before .walk .result in
+    let e = c .before .before .walk .ensures in (
+      omega arith,
+      omega (arith, l .inv .1, visits-split (a .image .now) (a .k) (a .places .now) (s .pre .1 .walkable) (a .node) (s .pre .1 .low) (a .c .place) (a .c .count) (s .pre .1 .named) (l .i) i< (w .result) (w .ensures .0)),
+      join-within (a .k .bus) (l .out) (r .exits) (c .join .result) (c .join .ensures) (l .inv .2) (e .exited .within),
+      (λ o h. next-arm (a .image .now) (a .k) (a .places .now) (s .pre .1 .walkable) (a .node) (s .pre .1 .low) (a .c .place) (a .c .count) (s .pre .1 .named) (l .i) i< (w .result) (w .ensures .0) (a .s) r e (l .out) (c .join .result) (c .join .ensures) o h ∙ l .inv .3 o h),
+      omega (arith, c .before .larger .ensures, next-arm-cost (a .image .now) (a .k) (a .places .now) (s .pre .1 .walkable) (a .node) (s .pre .1 .low) (a .c .place) (a .c .count) (s .pre .1 .named) (l .i) i< (w .result) (w .ensures .0) (a .s) r e, l .inv .4),
+    )
+
+branch-returns : (t : ℕ) → branch-lts.Need-returns (branch-claims t) (branch-at t) branch.Post branch-Inv-loop branch-μ-loop
+branch-returns t c =
+    let s = c .before .before .before .before in
+    let a = s .args in
+    let l = c .before .loop in
+    record {
+      exited = λ o h.
+          sym (ap (λ (z : Bool). getD (bits (a .k .bus) (l .out)) o false || z)
+          (any-done _ _ false _||_ (λ d v. v) (a .image .now) (a .c .place) (a .c .count) (l .i) (omega arith) (bits (a .k .bus) (a .s)) o) ∙ or-joins .right _)
+          ∙ l .inv .3 o h;
+      within = l .inv .2;
+      costs = omega (arith, cost-any-done (equal (slotsOf (a .k .bus))) (a .image .now) (a .c .place) (a .c .count) (l .i) (omega arith) (bits (a .k .bus) (a .s)), l .inv .4);
+    }
+
+-- ---- sequence
+
+abbrev sequence-Inv-loop : sequence-lts.InvT-loop
+sequence-Inv-loop image places k node place count cost₀ cur₀ i₀ cost cur i =
+    (i ≤ count)
+    × (cost + 65535 * visitsAll (childTrees image (place + 2 * i) (count - i)) ≤ 6553500000)
+    × Within (busPeriod (k .bus)) cur
+    × (afterAll (k .bus) (childTrees image (place + 2 * i) (count - i)) (bits (k .bus) cur) ≡ afterAll (k .bus) (childTrees image place count) (bits (k .bus) cur₀))
+    × (cost + costAll (equal (slotsOf (k .bus))) (childTrees image (place + 2 * i) (count - i)) (bits (k .bus) cur)
+    ≡ costAll (equal (slotsOf (k .bus))) (childTrees image place count) (bits (k .bus) cur₀))
+
+abbrev sequence-μ-loop : sequence-lts.MeasureT-loop
+sequence-μ-loop image places k node place count cost₀ cur₀ i₀ cost cur i = count - i
+
+sequence-loop-holds : (t : ℕ) → sequence-lts.Need-loop-holds (sequence-claims t) (sequence-at t) sequence.Post sequence-Inv-loop sequence-μ-loop
+sequence-loop-holds t c =
+    let s = c .before in
+    let a = s .args in (
+      omega arith,
+      rw (add-zero (a .c .place), sub-zero (a .c .count)) (omega (arith, s .pre .1 .few)),
+      s .pre .1 .within,
+      rw (add-zero (a .c .place), sub-zero (a .c .count)),
+      rw (add-zero (a .c .place), sub-zero (a .c .count)) (zero-add _),
+    )
+
+sequence-mul-word : (t : ℕ) → sequence-lts.Need-mul-word (sequence-claims t) (sequence-at t) sequence.Post sequence-Inv-loop sequence-μ-loop
+sequence-mul-word t c =
+    let s = c .before .before .before in
+    omega (arith, s .pre .1 .named .few, s .pre .1 .named .inside)
+
+sequence-add-word : (t : ℕ) → sequence-lts.Need-add-word (sequence-claims t) (sequence-at t) sequence.Post sequence-Inv-loop sequence-μ-loop
+sequence-add-word t c =
+    let s = c .before .before .before in
+    omega (arith, s .pre .1 .named .few, s .pre .1 .named .inside)
+
+sequence-word-requires : (t : ℕ) → sequence-lts.Need-word-requires (sequence-claims t) (sequence-at t) sequence.Post sequence-Inv-loop sequence-μ-loop
+sequence-word-requires t c κs =
+    let s = c .before .before .before in
+    omega (arith, s .pre .1 .named .few, s .pre .1 .named .inside)
+
+sequence-walk-requires : (t : ℕ) → sequence-lts.Need-walk-requires (sequence-claims t) (sequence-at t) sequence.Post sequence-Inv-loop sequence-μ-loop
+sequence-walk-requires t c κs =
+    let s = c .before .before .before .before in
+    let a = s .args in
+    let l = c .before .before .loop in
+    let i< : l .i < a .c .count = omega arith in
+    let low = child-low (a .image .now) (a .k) (a .places .now) (s .pre .1 .walkable) (a .node) (s .pre .1 .low) (a .c .place) (a .c .count) (s .pre .1 .named) (l .i) i< (c .word .result) (c .word .ensures .0) in (
+      omega (arith, s .pre .0, low),
+      child-ready (a .image .now) (a .k) (a .places .now) (s .pre .1 .walkable) (a .node) (s .pre .1 .low) (a .c .place) (a .c .count) (s .pre .1 .named) (l .i) i< (c .word .result) (c .word .ensures .0) (l .cur) (omega (arith, l .inv .1)) (l .inv .2),
+    )
+
+sequence-add-cost : (t : ℕ) → sequence-lts.Need-add-cost (sequence-claims t) (sequence-at t) sequence.Post sequence-Inv-loop sequence-μ-loop
+sequence-add-cost t c =
+    let s = c .before .before .before .before .before .before in
+    let a = s .args in
+    let l = c .before .before .before .before .loop in
+    let i< : l .i < a .c .count = omega arith in
+    let w = c .before .before .word in
+    omega (arith, l .inv .1, visits-split (a .image .now) (a .k) (a .places .now) (s .pre .1 .walkable) (a .node) (s .pre .1 .low) (a .c .place) (a .c .count) (s .pre .1 .named) (l .i) i< (w .result) (w .ensures .0), child-small (a .image .now) (a .k) (a .places .now) (s .pre .1 .walkable) (a .node) (s .pre .1 .low) (a .c .place) (a .c .count) (s .pre .1 .named) (l .i) i< (w .result) (w .ensures .0) (l .cur) (c .before .walk .result) (c .before .walk .ensures))
+
+sequence-add-i : (t : ℕ) → sequence-lts.Need-add-i (sequence-claims t) (sequence-at t) sequence.Post sequence-Inv-loop sequence-μ-loop
+sequence-add-i t c =
+    let s = c .before .before .before .before .before .before .before in
+    omega (arith, s .pre .1 .named .few)
+
+sequence-loop-less : (t : ℕ) → sequence-lts.Need-loop-less (sequence-claims t) (sequence-at t) sequence.Post sequence-Inv-loop sequence-μ-loop
+sequence-loop-less t c = omega arith
+
+sequence-loop-again : (t : ℕ) → sequence-lts.Need-loop-again (sequence-claims t) (sequence-at t) sequence.Post sequence-Inv-loop sequence-μ-loop
+sequence-loop-again t c =
+    let s = c .before .before .before .before .before .before .before in
+    let a = s .args in
+    let l = c .before .before .before .before .before .loop in
+    let i< : l .i < a .c .count = omega arith in
+    let w = c .before .before .before .word in
+    let r = c .before .before .walk .result in
+    let e = c .before .before .walk .ensures in (
+      omega arith,
+      omega (arith, l .inv .1, visits-split (a .image .now) (a .k) (a .places .now) (s .pre .1 .walkable) (a .node) (s .pre .1 .low) (a .c .place) (a .c .count) (s .pre .1 .named) (l .i) i< (w .result) (w .ensures .0), child-small (a .image .now) (a .k) (a .places .now) (s .pre .1 .walkable) (a .node) (s .pre .1 .low) (a .c .place) (a .c .count) (s .pre .1 .named) (l .i) i< (w .result) (w .ensures .0) (l .cur) r e),
+      e .exited .within,
+      next-in-order (a .image .now) (a .k) (a .places .now) (s .pre .1 .walkable) (a .node) (s .pre .1 .low) (a .c .place) (a .c .count) (s .pre .1 .named) (l .i) i< (w .result) (w .ensures .0) (l .cur) r e ∙ l .inv .3,
+      omega (arith, next-cost (a .image .now) (a .k) (a .places .now) (s .pre .1 .walkable) (a .node) (s .pre .1 .low) (a .c .place) (a .c .count) (s .pre .1 .named) (l .i) i< (w .result) (w .ensures .0) (l .cur) r e, l .inv .4),
+    )
+
+sequence-returns : (t : ℕ) → sequence-lts.Need-returns (sequence-claims t) (sequence-at t) sequence.Post sequence-Inv-loop sequence-μ-loop
+sequence-returns t c =
+    let s = c .before .before .before in
+    let a = s .args in
+    let l = c .before .loop in
+    record {
+      exited = sym (all-done _ _ false _||_ (λ d v. v) (a .image .now) (a .c .place) (a .c .count) (l .i) (omega arith) (bits (a .k .bus) (l .cur))) ∙ l .inv .3;
+      within = l .inv .2;
+      costs = omega (arith, cost-all-done (equal (slotsOf (a .k .bus))) (a .image .now) (a .c .place) (a .c .count) (l .i) (omega arith) (bits (a .k .bus) (l .cur)), l .inv .4);
+    }
+
+-- ---- unroll
+
+unroll-returns : (t : ℕ) → unroll-lts.Need-returns (unroll-claims t) (unroll-at t) unroll.Post
+unroll-returns t c =
+    let s = c .before .before in
+    let a = s .args in
+    rw (c .if1 .taken) (none-left (a .k .bus) (treeAt (a .image .now) (a .body)) (a .least) (a .done) (a .p) (s .pre .1 .within) (s .pre .1 .within-out))
+
+unroll-walk-requires : (t : ℕ) → unroll-lts.Need-walk-requires (unroll-claims t) (unroll-at t) unroll.Post
+unroll-walk-requires t c κs =
+    let s = c .before .before .before .before in
+    let a = s .args in
+    (omega (arith, s .pre .0), one-ready (a .image .now) (a .k) (a .places .now) (a .body) (a .done) (a .left) (a .p) (s .pre .1) (c .before .if2 .taken))
+
+unroll-joined-requires : (t : ℕ) → unroll-lts.Need-joined-requires (unroll-claims t) (unroll-at t) unroll.Post
+unroll-joined-requires t c κs =
+    let s = c .before .before .before .before .before in
+    let a = s .args in (
+      omega (arith, s .pre .1 .many),
+      omega (
+        arith,
+        rw (c .before .before .if2 .taken) at (s .pre .1 .few),
+        outcome-small (a .image .now) (a .k) (a .places .now) (s .pre .1 .walkable) (a .body) (s .pre .1 .low) (a .p .cur) (c .walk .result) (c .walk .ensures),
+      ),
+    )
+
+unroll-returns-2 : (t : ℕ) → unroll-lts.Need-returns-2 (unroll-claims t) (unroll-at t) unroll.Post
+unroll-returns-2 t c =
+    let s = c .before .before .before .before .before .before in
+    let a = s .args in
+    rw (c .before .before .before .if2 .taken)
+    (one-left (a .k .bus) (treeAt (a .image .now) (a .body)) (a .least) (a .done) (a .p) (c .before .walk .result) (c .joined .result) (s .pre .1 .within-out) (c .before .walk .ensures) (c .joined .ensures (a .k .bus)))
+
+unroll-unroll-requires : (t : ℕ) → unroll-lts.Need-unroll-requires (unroll-claims t) (unroll-at t) unroll.Post
+unroll-unroll-requires t c κs =
+    let s = c .before .before .before in
+    let a = s .args in
+    (omega (arith, s .pre .0), half-ready (a .image .now) (a .k) (a .places .now) (a .body) (a .done) (a .left) (a .p) (s .pre .1) (a .left / 2) (omega arith))
+
+unroll-add-unroll : (t : ℕ) → unroll-lts.Need-add-unroll (unroll-claims t) (unroll-at t) unroll.Post
+unroll-add-unroll t c = let s = c .before .before .before .before in omega (arith, s .pre .1 .many)
+
+unroll-sub-unroll : (t : ℕ) → unroll-lts.Need-sub-unroll (unroll-claims t) (unroll-at t) unroll.Post
+unroll-sub-unroll t c = omega arith
+
+unroll-unroll-requires-2 : (t : ℕ) → unroll-lts.Need-unroll-requires-2 (unroll-claims t) (unroll-at t) unroll.Post
+unroll-unroll-requires-2 t c κs =
+    let s = c .before .before .before .before in
+    let a = s .args in
+    (omega (arith, s .pre .0), other-ready (a .image .now) (a .k) (a .places .now) (a .body) (a .done) (a .left) (a .p) (s .pre .1) (a .least) (a .left / 2) (omega arith) (c .unroll .result) (c .unroll .ensures))
+
+unroll-returns-3 : (t : ℕ) → unroll-lts.Need-returns-3 (unroll-claims t) (unroll-at t) unroll.Post
+unroll-returns-3 t c =
+    let a = c .before .before .before .before .before .args in
+    let e : a .left / 2 + (a .left - a .left / 2) ≡ a .left = omega arith in
+    rw (← e)
+    (both-left (a .k .bus) (treeAt (a .image .now) (a .body)) (a .least) (a .done) (a .left / 2) (a .left - a .left / 2) (a .p) (c .before .unroll .result) (c .unroll2 .result) (c .before .unroll .ensures) (c .unroll2 .ensures))
+
+-- ---- walk
+
+walk-mul-at : (t : ℕ) → walk-lts.Need-mul-at (walk-claims t) (walk-at t) walk.Post
+walk-mul-at t c = let s = c .before in let a = s .args in omega (arith, in-places (a .image .now) (a .k) (a .places .now) (a .node) (a .s) (s .pre .1))
+
+walk-element-copy-out-at : (t : ℕ) → walk-lts.Need-element-copy-out-at (walk-claims t) (walk-at t) walk.Post
+walk-element-copy-out-at t c = let s = c .before in let a = s .args in omega (arith, in-places (a .image .now) (a .k) (a .places .now) (a .node) (a .s) (s .pre .1))
+
+walk-node-at-requires : (t : ℕ) → walk-lts.Need-node-at-requires (walk-claims t) (walk-at t) walk.Post
+walk-node-at-requires t c κs = let s = c .before .before in let a = s .args in in-image (a .image .now) (a .k) (a .places .now) (a .node) (a .s) (s .pre .1)
+
+walk-enum-known-n : (t : ℕ) → walk-lts.Need-enum-known-n (walk-claims t) (walk-at t) walk.Post
+walk-enum-known-n t c = c .match .keys1
+
+walk-plain-outcome-requires : (t : ℕ) → walk-lts.Need-plain-outcome-requires (walk-claims t) (walk-at t) walk.Post
+walk-plain-outcome-requires t c κs =
+    let s = c .before .before .before .before .before .before .before in
+    let a = s .args in
+    let e = sym (c .before .before .before .before .node-at .ensures) ∙ c .before .n .given .1 in
+    let x = c .before .n .given .0 .0 in
+    plain-ready (a .image .now) (a .k) (a .places .now) (a .node) (a .s) (s .pre .1) x e
+
+walk-enum-known-n-2 : (t : ℕ) → walk-lts.Need-enum-known-n-2 (walk-claims t) (walk-at t) walk.Post
+walk-enum-known-n-2 t c = c .match .keys2
+
+walk-block-outcome-requires : (t : ℕ) → walk-lts.Need-block-outcome-requires (walk-claims t) (walk-at t) walk.Post
+walk-block-outcome-requires t c κs =
+    let s = c .before .before .before .before .before .before .before in
+    let a = s .args in
+    let e = sym (c .before .before .before .before .node-at .ensures) ∙ c .before .n2 .given .1 in
+    let x = c .before .n2 .given .0 .0 in
+    block-ready (a .image .now) (a .k) (a .places .now) (a .node) (a .s) (s .pre .1) x e
+
+walk-enum-known-n-3 : (t : ℕ) → walk-lts.Need-enum-known-n-3 (walk-claims t) (walk-at t) walk.Post
+walk-enum-known-n-3 t c = c .match .keys3
+
+walk-sequence-requires : (t : ℕ) → walk-lts.Need-sequence-requires (walk-claims t) (walk-at t) walk.Post
+walk-sequence-requires t c κs =
+    let s = c .before .before .before .before .before .before .before in
+    let a = s .args in
+    let e = sym (c .before .before .before .before .node-at .ensures) ∙ c .before .n3 .given .1 in
+    let x = c .before .n3 .given .0 .0 in
+    (omega (arith, s .pre .0), sequence-ready (a .image .now) (a .k) (a .places .now) (a .node) (a .s) (s .pre .1) x e)
+
+walk-enum-known-n-4 : (t : ℕ) → walk-lts.Need-enum-known-n-4 (walk-claims t) (walk-at t) walk.Post
+walk-enum-known-n-4 t c = c .match .keys4
+
+walk-branch-requires : (t : ℕ) → walk-lts.Need-branch-requires (walk-claims t) (walk-at t) walk.Post
+walk-branch-requires t c κs =
+    let s = c .before .before .before .before .before .before .before in
+    let a = s .args in
+    let e = sym (c .before .before .before .before .node-at .ensures) ∙ c .before .n4 .given .1 in
+    let x = c .before .n4 .given .0 .0 in
+    (omega (arith, s .pre .0), branch-ready (a .image .now) (a .k) (a .places .now) (a .node) (a .s) (s .pre .1) x e)
+
+walk-enum-known-n-5 : (t : ℕ) → walk-lts.Need-enum-known-n-5 (walk-claims t) (walk-at t) walk.Post
+walk-enum-known-n-5 t c = c .match .keys5
+
+walk-before-first-requires : (t : ℕ) → walk-lts.Need-before-first-requires (walk-claims t) (walk-at t) walk.Post
+walk-before-first-requires t c κs = search needs
+
+walk-unroll-requires : (t : ℕ) → walk-lts.Need-unroll-requires (walk-claims t) (walk-at t) walk.Post
+walk-unroll-requires t c κs =
+    let s = c .before .before .before .before .before .before .before .before in
+    let a = s .args in
+    let e = sym (c .before .before .before .before .before .node-at .ensures) ∙ c .before .before .n5 .given .1 in
+    let x = c .before .before .n5 .given .0 .0 in
+    let low = body-low (a .image .now) (a .k) (a .places .now) (a .node) (a .s) (s .pre .1) x e (c .before-first .result) (c .before-first .ensures (a .k .bus)) in
+    (omega (arith, s .pre .0, low .0, low .1), loop-ready (a .image .now) (a .k) (a .places .now) (a .node) (a .s) (s .pre .1) x e (c .before-first .result) (c .before-first .ensures (a .k .bus)))
+
+walk-returns : (t : ℕ) → walk-lts.Need-returns (walk-claims t) (walk-at t) walk.Post
+walk-returns t c =
+    let s = c .before .before .before .before .before .before .before .before in
+    let a = s .args in
+    let e = sym (c .before .before .before .before .before .node-at .ensures) ∙ c .before .before .n .given .1 in
+    let x = c .before .before .n .given .0 .0 in
+    plain-done (a .image .now) (a .k) (a .places .now) (a .node) (a .s) (s .pre .1) x e (c .plain-outcome .result) (c .plain-outcome .ensures)
+
+walk-returns-2 : (t : ℕ) → walk-lts.Need-returns-2 (walk-claims t) (walk-at t) walk.Post
+walk-returns-2 t c =
+    let s = c .before .before .before .before .before .before .before .before in
+    let a = s .args in
+    let e = sym (c .before .before .before .before .before .node-at .ensures) ∙ c .before .before .n2 .given .1 in
+    let x = c .before .before .n2 .given .0 .0 in
+    block-done (a .image .now) (a .k) (a .places .now) (a .node) (a .s) (s .pre .1) x e (c .block-outcome .result) (c .block-outcome .ensures)
+
+walk-returns-3 : (t : ℕ) → walk-lts.Need-returns-3 (walk-claims t) (walk-at t) walk.Post
+walk-returns-3 t c =
+    let s = c .before .before .before .before .before .before .before .before in
+    let a = s .args in
+    let e = sym (c .before .before .before .before .before .node-at .ensures) ∙ c .before .before .n3 .given .1 in
+    let x = c .before .before .n3 .given .0 .0 in
+    sequence-done (a .image .now) (a .k) (a .places .now) (a .node) (a .s) (s .pre .1) x e (c .sequence .result) (c .sequence .ensures)
+
+walk-returns-4 : (t : ℕ) → walk-lts.Need-returns-4 (walk-claims t) (walk-at t) walk.Post
+walk-returns-4 t c =
+    let s = c .before .before .before .before .before .before .before .before in
+    let a = s .args in
+    let e = sym (c .before .before .before .before .before .node-at .ensures) ∙ c .before .before .n4 .given .1 in
+    let x = c .before .before .n4 .given .0 .0 in
+    branch-done (a .image .now) (a .k) (a .places .now) (a .node) (a .s) (s .pre .1) x e (c .branch .result) (c .branch .ensures)
+
+walk-returns-5 : (t : ℕ) → walk-lts.Need-returns-5 (walk-claims t) (walk-at t) walk.Post
+walk-returns-5 t c =
+    let s = c .before .before .before .before .before .before .before .before .before .before in
+    let a = s .args in
+    let e = sym (c .before .before .before .before .before .before .before .node-at .ensures) ∙ c .before .before .before .before .n5 .given .1 in
+    let x = c .before .before .before .before .n5 .given .0 .0 in
+    loop-done (a .image .now) (a .k) (a .places .now) (a .node) (a .s) (s .pre .1) x e (c .before .before .before-first .result) (c .before .before .before-first .ensures (a .k .bus)) (c .before .unroll .result) (c .before .unroll .ensures)
+
+pub +branch+sequence+unroll+walk-spec : {M : Type 1} → statement M
++branch+sequence+unroll+walk-spec =
+    close μ-branch μ-sequence μ-unroll μ-walk
+    (λ t. branch-lts.spec (branch-claims t) (branch-at t) branch.Post branch-Inv-loop branch-μ-loop
+    (branch-empty-requires t)
+    (branch-loop-holds t)
+    (branch-mul-word t)
+    (branch-add-word t)
+    (branch-word-requires t)
+    (branch-walk-requires t)
+    (branch-larger-requires t)
+    (branch-join-requires t)
+    (branch-add-i t)
+    (branch-loop-less t)
+    (branch-loop-again t)
+    (branch-returns t))
+    (λ t. sequence-lts.spec (sequence-claims t) (sequence-at t) sequence.Post sequence-Inv-loop sequence-μ-loop
+    (sequence-loop-holds t)
+    (sequence-mul-word t)
+    (sequence-add-word t)
+    (sequence-word-requires t)
+    (sequence-walk-requires t)
+    (sequence-add-cost t)
+    (sequence-add-i t)
+    (sequence-loop-less t)
+    (sequence-loop-again t)
+    (sequence-returns t))
+    (λ t. unroll-lts.spec (unroll-claims t) (unroll-at t) unroll.Post
+    (unroll-returns t)
+    (unroll-walk-requires t)
+    (unroll-joined-requires t)
+    (unroll-returns-2 t)
+    (unroll-unroll-requires t)
+    (unroll-add-unroll t)
+    (unroll-sub-unroll t)
+    (unroll-unroll-requires-2 t)
+    (unroll-returns-3 t))
+    λ t. walk-lts.spec (walk-claims t) (walk-at t) walk.Post
+    (walk-mul-at t)
+    (walk-element-copy-out-at t)
+    (walk-node-at-requires t)
+    (walk-enum-known-n t)
+    (walk-plain-outcome-requires t)
+    (walk-enum-known-n-2 t)
+    (walk-block-outcome-requires t)
+    (walk-enum-known-n-3 t)
+    (walk-sequence-requires t)
+    (walk-enum-known-n-4 t)
+    (walk-branch-requires t)
+    (walk-enum-known-n-5 t)
+    (walk-before-first-requires t)
+    (walk-unroll-requires t)
+    (walk-returns t)
+    (walk-returns-2 t)
+    (walk-returns-3 t)
+    (walk-returns-4 t)
+    (walk-returns-5 t)

@@ -1,0 +1,127 @@
+-- A node's exits and cost from its children's: a sequence, a branch, a loop; and the costs of children one by one.
+use mathlib.Core.Path.{_≡_, refl, sym, _∙_, ap, ap₂}
+use mathlib.Core.Bool.{Bool, false, _||_}
+use mathlib.Core.List.{List}
+use lib.ListN.{getD}
+use native.Mathlib.Omega.{arith}
+use native.Mathlib.Nat.{add-zero, zero-add}
+use Prim.Native.Nat.{ℕ, _+_, _-_, _*_, _≤_, _<_, max}
+use Rattle.runs.specs.Bus.{Bus as RunBus}
+use Rattle.runs.specs.Slots.{equal}
+use Rattle.runs.specs.Clock.{offsets}
+use Rattle.runs.specs.Nodes.{Tree, Trees}
+use Rattle.runs.specs.Carried.{row, iterate, carried}
+use Rattle.runs.specs.Figures.{exits, cost, costAll, costAny, sum}
+use Rattle.runs.proofs.Joins.{or-joins, row-same, iterate-split, sum-same, sum-split}
+use Rattle.runs.proofs.Loops.{unrolled-none, unrolled-one, unrolled-both, unrolled-all}
+use Rattle.bus.specs.declared.Bus.{Bus}
+use Rattle.bus.specs.Waits.{slotsOf}
+use Rattle.offsets.specs.declared.Set.{Set}
+use Rattle.image.specs.Bytes.{wordAt}
+use Rattle.image.specs.Nodes.{treeAt, childTrees}
+use Rattle.image.proofs.Walks.{trees-more, trees-none}
+use Rattle.exits.specs.Exits.{bitsOf, busPeriod, Within, Exited}
+use Rattle.exits.proofs.Bits.{bits-at, bits-row}
+use Rattle.published.specs.Steps.{bits, after, afterAll, afterAny, Published, PublishedAll, PublishedAny, BegunAt, TurnedAt, UnrolledAt}
+use Rattle.published.specs.declared.Outcome.{Outcome}
+use Rattle.published.specs.declared.Pass.{Pass}
+
+-- ---- costs of children
+
+module _ (b : RunBus) (s : List ℕ) (p n i : ℕ) where
+  pub cost-all-more : i < n → (X : List Bool)
+      → costAll b (childTrees s (p + 2 * i) (n - i)) X
+      ≡ cost b (treeAt s (wordAt s (p + 2 * i))) X
+      + costAll b (childTrees s (p + 2 * (i + 1)) (n - (i + 1))) (exits b (treeAt s (wordAt s (p + 2 * i))) X)
+  unfolding cost
+  cost-all-more h X = ap (λ (xs : Trees). costAll b xs X) (trees-more s p n i h)
+
+  pub cost-any-more : i < n → (X : List Bool)
+      → costAny b (childTrees s (p + 2 * i) (n - i)) X
+      ≡ max (cost b (treeAt s (wordAt s (p + 2 * i))) X) (costAny b (childTrees s (p + 2 * (i + 1)) (n - (i + 1))) X)
+  unfolding cost
+  cost-any-more h X = ap (λ (xs : Trees). costAny b xs X) (trees-more s p n i h)
+
+  pub cost-all-done : n ≤ i → (X : List Bool) → costAll b (childTrees s (p + 2 * i) (n - i)) X ≡ 0
+  unfolding cost
+  cost-all-done h X = ap (λ (xs : Trees). costAll b xs X) (trees-none s p n i h)
+
+  pub cost-any-done : n ≤ i → (X : List Bool) → costAny b (childTrees s (p + 2 * i) (n - i)) X ≡ 0
+  unfolding cost
+  cost-any-done h X = ap (λ (xs : Trees). costAny b xs X) (trees-none s p n i h)
+
+-- ---- nodes
+
+module _ (b : Bus) (x : Tree) (s : Set) where
+  pub as-all : (xs : Trees) (r : Outcome) → x ≡ Tree.sequence xs → PublishedAll b xs s r → Published b x s r
+  unfolding carried cost
+  as-all xs r e h = record {
+    exited = record { bits = rw e (h .exited); within = h .within };
+    costs = rw e (h .costs);
+  }
+
+  pub as-any : (xs : Trees) (r : Outcome) → x ≡ Tree.branch xs → PublishedAny b xs s r → Published b x s r
+  unfolding carried cost equal
+  as-any xs r e h = record {
+    exited = record {
+      bits = rw e (bits-row (busPeriod b) (r .exits) _ (λ o l. sym (bits-at (busPeriod b) (r .exits) o l) ∙ h .exited o l));
+      within = h .within;
+    };
+    costs = rw e (h .costs);
+  }
+
+  pub as-loop : (body : Tree) (least greatest : ℕ) (p r : Pass) → x ≡ Tree.loop least greatest body → BegunAt b least s p
+      → UnrolledAt b body least 0 greatest p r → Published b x s (record { cost = r .cost; exits = r .out })
+  unfolding carried cost equal
+  as-loop body least greatest p r e g u = record {
+    exited = record {
+      bits = rw e (bits-row (busPeriod b) (r .out) _ (λ o l.
+          sym (bits-at (busPeriod b) (r .out) o l)
+          ∙ unrolled-all false _||_ or-joins (busPeriod b) (after b body) least greatest (bits b s) _ _ _ _ (g .begun) (u .unrolled) o l));
+      within = u .within-out;
+    };
+    costs =
+        rw e
+        (u .costs ∙ ap₂ _+_ (g .costs) (ap (λ (X : List Bool). sum greatest (λ i. cost (equal (slotsOf b)) body (iterate (after b body) i X))) (g .begun .cur))
+        ∙ zero-add _);
+  }
+
+-- ---- parts of a loop
+
+module _ (b : Bus) (x : Tree) (least done : ℕ) where
+  abbrev F : List Bool → List Bool
+  F X = after b x X
+
+  abbrev charge : List Bool → ℕ → ℕ
+  charge X i = cost (equal (slotsOf b)) x (iterate (after b x) i X)
+
+  pub none-left : (p : Pass) → Within (busPeriod b) (p .cur) → Within (busPeriod b) (p .out) → UnrolledAt b x least done 0 p p
+  unfolding sum
+  none-left p h g = record {
+    unrolled = unrolled-none false _||_ or-joins (busPeriod b) (after b x) least done _ _;
+    within = h;
+    within-out = g;
+    costs = sym (add-zero _);
+  }
+
+  pub one-left : (p : Pass) (n : Outcome) (r : Pass) → Within (busPeriod b) (p .out) → Published b x (p .cur) n → TurnedAt b least done p n r
+      → UnrolledAt b x least done 1 p r
+  unfolding sum iterate
+  one-left p n r g e t = record {
+    unrolled = unrolled-one false _||_ or-joins (busPeriod b) (after b x) least done _ _ (bits b (n .exits)) _ _ (e .exited .bits) (t .turned);
+    within = t .within (e .exited .within);
+    within-out = t .within-out (e .exited .within) g;
+    costs = t .costs ∙ ap (λ (m : ℕ). p .cost + m) (e .costs ∙ sym (zero-add _));
+  }
+
+  pub both-left : (h k : ℕ) (p a r : Pass) → UnrolledAt b x least done h p a → UnrolledAt b x least (done + h) k a r → UnrolledAt b x least done (h + k) p r
+  both-left h k p a r u v = record {
+    unrolled = unrolled-both false _||_ or-joins (busPeriod b) (after b x) least done h k _ _ _ _ _ _ (u .unrolled) (v .unrolled);
+    within = v .within;
+    within-out = v .within-out;
+    costs =
+        let e : sum k (charge (bits b (a .cur))) ≡ sum k (λ i. charge (bits b (p .cur)) (h + i)) =
+        sum-same k _ _ (λ i l. ap (cost (equal (slotsOf b)) x)
+        (ap (iterate (after b x) i) (u .unrolled .cur) ∙ sym (iterate-split (after b x) h i (bits b (p .cur))))) in
+        omega (arith, v .costs, u .costs, e, sum-split h k (charge (bits b (p .cur))));
+  }

@@ -1,0 +1,5 @@
+pub mod Tables
+pub mod Rooms
+pub mod Parts
+pub mod Children
+pub mod Descents
