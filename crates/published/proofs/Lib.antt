@@ -1,4 +1,5 @@
 pub mod Joins
 pub mod Parts
+pub mod Watching
 pub mod Children
 pub mod Descents

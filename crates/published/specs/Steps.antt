@@ -19,6 +19,8 @@ use Rattle.image.specs.declared.Task.{Task}
 use Rattle.exits.specs.Exits.{bitsOf, busPeriod, Within, Exited}
 use Rattle.published.specs.declared.Outcome.{Outcome}
 use Rattle.published.specs.declared.Pass.{Pass}
+use Rattle.published.specs.declared.Watch.{Watch}
+use Rattle.published.specs.declared.Turns.{Turns}
 
 -- a set's bits on a bus; the bits after a tree, after the trees in order, and after any one of them at an offset
 abbrev pub bits : Bus → Set → List Bool
@@ -47,15 +49,6 @@ pub record ReadyAll (s : List ℕ) (k : Task) (places : List ℕ) (node place co
   pub named : Named s place count node
   pub few : visitsAll (childTrees s place count) ≤ 100000
   pub within : Within (busPeriod (k .bus)) x
-
--- `left` iterations of a loop's body, `done` being done
-pub record ReadyLoop (s : List ℕ) (k : Task) (places : List ℕ) (body done left : ℕ) (p : Pass) : Type 0 where
-  pub walkable : Walkable s k places
-  pub low : body ≤ k .entry
-  pub many : done + left ≤ 10000
-  pub few : p .cost + 65535 * (left * visits (treeAt s body)) ≤ 6553500000
-  pub within : Within (busPeriod (k .bus)) (p .cur)
-  pub within-out : Within (busPeriod (k .bus)) (p .out)
 
 -- what Algorithms 1 to 3 give for a node: its exits and its cost
 pub record Published (b : Bus) (x : Tree) (s : Set) (r : Outcome) : Type 0 where
@@ -94,3 +87,62 @@ pub record UnrolledAt (b : Bus) (body : Tree) (least done left : ℕ) (p r : Pas
   pub within : Within (busPeriod b) (r .cur)
   pub within-out : Within (busPeriod b) (r .out)
   pub costs : r .cost ≡ p .cost + sum left (λ i. cost (equal (slotsOf b)) body (iterate (after b body) i (bits b (p .cur))))
+
+-- ---- loops that have become periodic
+
+-- what iteration i from the set C on costs, on a bus
+abbrev pub charge : Bus → Tree → List Bool → ℕ → ℕ
+charge b x C i = cost (equal (slotsOf b)) x (iterate (after b x) i C)
+
+-- c iterations from C on lead to C again, and cost g
+pub record Cyclic (b : Bus) (x : Tree) (c g : ℕ) (C : List Bool) : Type 0 where
+  pub again : iterate (after b x) c C ≡ C
+  pub costs : sum c (charge b x C) ≡ g
+
+-- what is watched is true of the set C now and the cost so far
+pub record Watches (b : Bus) (x : Tree) (C : List Bool) (total : ℕ) (w : Watch) : Type 0 where
+  pub past : C ≡ iterate (after b x) (w .gap) (bits b (w .old))
+  pub paid : total ≡ w .spent + sum (w .gap) (charge b x (bits b (w .old)))
+  pub cyclic : 1 ≤ w .cycle → Cyclic b x (w .cycle) (w .gain) C
+
+-- its numbers are small after `done` iterations
+pub record WatchSmall (done : ℕ) (w : Watch) : Type 0 where
+  pub gap-most : w .gap ≤ done
+  pub span-most : w .span ≤ 32768
+  pub cycle-most : w .cycle ≤ done
+  pub gain-most : w .gain ≤ 6553500000
+
+-- one more iteration, on every bus and for every tree
+pub record WatchedBy (cur : Set) (total : ℕ) (w r : Watch) : Type 0 where
+  pub small : (done : ℕ) → done ≤ 9999 → WatchSmall done w → WatchSmall (done + 1) r
+  pub watches : (b : Bus) (x : Tree) (C : List Bool) (before : ℕ) → Watches b x C before w → bits b cur ≡ after b x C
+      → total ≡ before + cost (equal (slotsOf b)) x C → Watches b x (bits b cur) total r
+
+-- n whole cycles are skipped
+pub record SkippedBy (p : Pass) (w : Watch) (n : ℕ) (r : Turns) : Type 0 where
+  pub cur : r .pass .cur ≡ p .cur
+  pub out : r .pass .out ≡ p .out
+  pub costs : r .pass .cost ≡ p .cost + n * w .gain
+  pub old : r .watch .old ≡ p .cur
+  pub spent : r .watch .spent ≡ r .pass .cost
+  pub gap : r .watch .gap ≡ 0
+  pub span : r .watch .span ≡ w .span
+  pub cycle : r .watch .cycle ≡ w .cycle
+  pub gain : r .watch .gain ≡ w .gain
+
+-- `left` iterations of a loop's body, `done` being done
+pub record ReadyLoop (s : List ℕ) (k : Task) (places : List ℕ) (body done left : ℕ) (p : Pass) (w : Watch) : Type 0 where
+  pub walkable : Walkable s k places
+  pub low : body ≤ k .entry
+  pub many : done + left ≤ 10000
+  pub few : p .cost + 65535 * (left * visits (treeAt s body)) ≤ 6553500000
+  pub within : Within (busPeriod (k .bus)) (p .cur)
+  pub within-out : Within (busPeriod (k .bus)) (p .out)
+  pub small : WatchSmall done w
+  pub watches : Watches (k .bus) (treeAt s body) (bits (k .bus) (p .cur)) (p .cost) w
+
+-- what they leave
+pub record Unrolls (b : Bus) (body : Tree) (least done left : ℕ) (p : Pass) (r : Turns) : Type 0 where
+  pub unrolled : UnrolledAt b body least done left p (r .pass)
+  pub small : WatchSmall (done + left) (r .watch)
+  pub watches : Watches b body (bits b (r .pass .cur)) (r .pass .cost) (r .watch)

@@ -3,14 +3,15 @@
 // Promise: `walk` gives the exits and the cost that `exits` and `cost` of crates/runs/specs/Figures.antt name for the node.
 // Definitions: specs/Steps.antt, over crates/runs/specs and crates/exits/specs/Exits.antt.
 // The node number falls at each descent; where a loop is unrolled, the pair of node number and iterations left falls: the iterations
-// are taken in two halves, so the stack grows with the logarithm of the count.
+// are taken in two halves, so the stack grows with the logarithm of the count. A loop whose exit sets have become periodic (after `cycle`
+// iterations the set is the same again, and they cost `gain`) is not walked to its end: whole cycles are skipped.
 ghost use mathlib.Core.Path.{_≡_};
 ghost use Prim.Native.Nat.{ℕ, _+_, _≤_, max};
 ghost use Rattle.runs.specs.Nodes.{Tree};
 ghost use Rattle.bus.specs.declared.Bus.{Bus};
 ghost use Rattle.image.specs.Nodes.{treeAt, childTrees, kindMeant};
 ghost use Rattle.exits.specs.Exits.{PlainReady, BusReady, busPeriod};
-ghost use Rattle.published.specs.Steps.{Ready, ReadyAll, ReadyLoop, Published, PublishedAll, PublishedAny, BegunAt, TurnedAt, UnrolledAt};
+ghost use Rattle.published.specs.Steps.{Ready, ReadyAll, ReadyLoop, Published, PublishedAll, PublishedAny, BegunAt, TurnedAt, WatchSmall, WatchedBy, SkippedBy, Unrolls};
 use bus::Bus;
 use image::Task;
 use image::nodes::BusBlock;
@@ -32,6 +33,23 @@ pub struct Pass {
     pub cur: Set,
     pub out: Set,
     pub cost: u64,
+}
+
+// What was seen of the iterations: the offsets `gap` iterations ago and the cost then, which are kept for `span` iterations; and once a
+// cycle is found, its length and its cost (a length of 0: none is found yet).
+pub struct Watch {
+    pub old: Set,
+    pub spent: u64,
+    pub gap: usize,
+    pub span: usize,
+    pub cycle: usize,
+    pub gain: u64,
+}
+
+// Where an unrolled part of a loop leaves it.
+pub struct Turns {
+    pub pass: Pass,
+    pub watch: Watch,
 }
 
 // Algorithm 1 for a plain block.
@@ -104,6 +122,74 @@ fn joined(least: usize, done: usize, p: Pass, n: Outcome) -> Pass
     }
 }
 
+// What is known after one more iteration, which left the offsets `cur` and the cost so far.
+fn watched(cur: Set, cost: u64, w: Watch) -> Watch
+    requires { ⌜ (WatchSmall 9999 w) × (w .spent ≤ cost) × (cost ≤ 6553500000) ⌝ }
+    ensures { λ r. ⌜ WatchedBy cur cost w r ⌝ }
+{
+    let old = w.old;
+    let gap = w.gap + 1;
+    if 0 < w.cycle {
+        return Watch {
+            old,
+            spent: w.spent,
+            gap,
+            span: w.span,
+            cycle: w.cycle,
+            gain: w.gain,
+        };
+    }
+    if offsets::same(cur, old) {
+        return Watch {
+            old,
+            spent: w.spent,
+            gap,
+            span: w.span,
+            cycle: gap,
+            gain: cost - w.spent,
+        };
+    }
+    if w.span <= gap {
+        return Watch {
+            old: cur,
+            spent: cost,
+            gap: 0,
+            span: 2 * w.span,
+            cycle: 0,
+            gain: 0,
+        };
+    }
+    Watch {
+        old,
+        spent: w.spent,
+        gap,
+        span: w.span,
+        cycle: 0,
+        gain: 0,
+    }
+}
+
+// The loop after n more cycles.
+fn skipped(p: Pass, w: Watch, n: usize) -> Turns
+    requires { ⌜ (n ≤ 10000) × (p .cost ≤ 6553500000) × (w .gain ≤ 6553500000) ⌝ }
+    ensures { λ r. ⌜ SkippedBy p w n r ⌝ }
+{
+    let cur = p.cur;
+    let out = p.out;
+    let cost = p.cost + n as u64 * w.gain;
+    Turns {
+        pass: Pass { cur, out, cost },
+        watch: Watch {
+            old: cur,
+            spent: cost,
+            gap: 0,
+            span: w.span,
+            cycle: w.cycle,
+            gain: w.gain,
+        },
+    }
+}
+
 fn larger(a: u64, b: u64) -> u64
     ensures { λ r. ⌜ r ≡ max a b ⌝ }
 {
@@ -125,10 +211,29 @@ pub fn walk(image: &[u8], places: &[usize; 256], k: Task, node: usize, s: Set) -
         Node::Branch(c) => branch(image, places, k, node, c, s),
         Node::Loop(l) => {
             let first = before_first(l.least, s);
-            let all = unroll(image, places, k, l.body, l.least, 0, l.greatest, first);
-            let out = all.out;
+            let watch = Watch {
+                old: s,
+                spent: 0,
+                gap: 0,
+                span: 1,
+                cycle: 0,
+                gain: 0,
+            };
+            let all = unroll(
+                image,
+                places,
+                k,
+                l.body,
+                l.least,
+                0,
+                l.greatest,
+                first,
+                watch,
+            );
+            let pass = all.pass;
+            let out = pass.out;
             Outcome {
-                cost: all.cost,
+                cost: pass.cost,
                 exits: out,
             }
         }
@@ -182,7 +287,7 @@ fn branch(image: &[u8], places: &[usize; 256], k: Task, node: usize, c: Children
     Outcome { cost, exits: out }
 }
 
-// `left` iterations more, as two halves.
+// `left` iterations more: none, whole cycles skipped, one, or two halves.
 fn unroll(
     image: &[u8],
     places: &[usize; 256],
@@ -192,19 +297,52 @@ fn unroll(
     done: usize,
     left: usize,
     p: Pass,
-) -> Pass
-    requires { ⌜ ReadyLoop (now image) k (now places) body done left p ⌝ }
-    ensures { λ r. ⌜ UnrolledAt (k .bus) (treeAt (now (image .entry)) body) least done left p r ⌝ }
+    w: Watch,
+) -> Turns
+    requires { ⌜ ReadyLoop (now image) k (now places) body done left p w ⌝ }
+    ensures { λ r. ⌜ Unrolls (k .bus) (treeAt (now (image .entry)) body) least done left p r ⌝ }
 {
     if left == 0 {
-        return p;
+        return Turns { pass: p, watch: w };
+    }
+    let n = cycles::jumps(w.cycle, left);
+    if 0 < n {
+        let s = skipped(p, w, n);
+        let pass = s.pass;
+        let watch = s.watch;
+        let skip = n * w.cycle;
+        return unroll(
+            image,
+            places,
+            k,
+            body,
+            least,
+            done + skip,
+            left - skip,
+            pass,
+            watch,
+        );
     }
     if left == 1 {
         let cur = p.cur;
         let next = walk(image, places, k, body, cur);
-        return joined(least, done, p, next);
+        let pass = joined(least, done, p, next);
+        let watch = watched(next.exits, pass.cost, w);
+        return Turns { pass, watch };
     }
     let half = left / 2;
-    let a = unroll(image, places, k, body, least, done, half, p);
-    unroll(image, places, k, body, least, done + half, left - half, a)
+    let a = unroll(image, places, k, body, least, done, half, p, w);
+    let pass = a.pass;
+    let watch = a.watch;
+    unroll(
+        image,
+        places,
+        k,
+        body,
+        least,
+        done + half,
+        left - half,
+        pass,
+        watch,
+    )
 }

@@ -15,3 +15,4 @@ pub mod Whole
 mod Worked
 pub mod Joins
 pub mod Loops
+pub mod Periodic

@@ -3,7 +3,7 @@ use mathlib.Core.Path.{_≡_, refl, sym, _∙_, ap, subst}
 use mathlib.Core.Bool.{Bool, true, false, cond, _&&_}
 use lib.Dec.{leb, ltb}
 use borrow.Author.Tests.{le-leb, lt-leb, lt-ltb, le-ltb}
-use native.Mathlib.Nat.{mod-eq-of-lt, add-mod-right, mul-le-mul-right, suc-mul, add-zero, not-suc-le-zero}
+use native.Mathlib.Nat.{mod-eq-of-lt, add-mod-right, mul-le-mul-right, suc-mul, add-zero, not-suc-le-zero, mul-comm, mul-sub, mul-one}
 use native.Mathlib.Omega.{arith}
 use Prim.Native.Nat.{ℕ, zero, suc, _+_, _-_, _*_, _%_, _≤_, _<_}
 use Rattle.runs.specs.Bus.{Bus, Lawful, IsWait}
@@ -91,12 +91,17 @@ module _ (v : Slots) (ok : Sound v) where
     pub wait-formula : equal v .wait e o ≡ formula v e o
     wait-formula = wait-equation7 ∙ sym (formula-equation7 e pos le o lt)
 
-    -- Definition 1's bound: (cores - 1) × slot + e - 1.
-    pub wait-most : equal v .wait e o ≤ periodOf v - v .slot + e - 1
+    wait-below : equal v .wait e o ≤ periodOf v - v .slot + e - 1
     unfolding equal equation7
-    wait-most =
+    wait-below =
         split (first v) o
         (λ h. split (o + e) (first v + v .slot)
         (λ k. rw (le-ltb o (first v) h, le-leb (o + e) (first v + v .slot) k) (omega arith))
         (λ k. rw (le-ltb o (first v) h, lt-leb (o + e) (first v + v .slot) k) (omega (arith, slot-in))))
         (λ h. rw (lt-ltb o (first v) h) (omega (arith, slot-in)))
+
+    -- Definition 1 of 000: the wait is at most ((cores - 1) × slot) + (e - 1).
+    pub wait-most : equal v .wait e o ≤ (v .cores - 1) * v .slot + (e - 1)
+    wait-most =
+        let others : (v .cores - 1) * v .slot ≡ periodOf v - v .slot = mul-comm (v .cores - 1) (v .slot) ∙ mul-sub (v .slot) (v .cores) 1 ∙ rw (mul-comm (v .slot) (v .cores), mul-one) in
+        omega (arith, wait-below, others)

@@ -19,9 +19,9 @@ use Rattle.image.proofs.Walks.{all-done, any-done}
 use Rattle.exits.specs.Exits.{busPeriod, Within}
 use Rattle.published.specs.Steps.{bits, afterAll, afterAny}
 use Rattle.published.proofs.Joins.{empty-at, empty-within, join-within}
-use Rattle.published.proofs.Parts.{cost-all-done, cost-any-done, none-left, one-left, both-left}
+use Rattle.published.proofs.Parts.{cost-all-done, cost-any-done}
 use Rattle.published.proofs.Children.{outcome-small, child-low, visits-split, child-ready, child-small, next-in-order, next-cost, next-arm, next-arm-cost}
-use Rattle.published.proofs.Descents.{in-image, in-places, plain-ready, plain-done, block-ready, block-done, sequence-ready, sequence-done, branch-ready, branch-done, body-low, loop-ready, loop-done, one-ready, half-ready, other-ready}
+use Rattle.published.proofs.Descents.{in-image, in-places, plain-ready, plain-done, block-ready, block-done, sequence-ready, sequence-done, branch-ready, branch-done, body-low, loop-ready, loop-done, one-ready, half-ready, other-ready, skip-small, skip-fits, skipped-ready, skipped-unrolls, none-unrolls, one-unrolls, both-unroll}
 use Rattle.published.proofs.branch.Reads as branch
 use Rattle.published.proofs.branch.Kinds as branch-kinds
 use Rattle.published.proofs.+branch+sequence+unroll+walk.Lts-branch as branch-lts
@@ -42,6 +42,9 @@ use Rattle.published.proofs.larger.Reads as larger-reads
 use Rattle.published.proofs.before_first.Reads as before-first-reads
 use Rattle.published.proofs.block_outcome.Reads as block-outcome-reads
 use Rattle.published.proofs.joined.Reads as joined-reads
+use Rattle.cycles.proofs.jumps.Reads as jumps-reads
+use Rattle.published.proofs.skipped.Reads as skipped-reads
+use Rattle.published.proofs.watched.Reads as watched-reads
 use Rattle.published.proofs.plain_outcome.Reads as plain-outcome-reads
 use Rattle.published.proofs.+branch+sequence+unroll+walk.{statement}
 use Rattle.published.proofs.+branch+sequence+unroll+walk.Tie.{close}
@@ -92,7 +95,20 @@ abbrev sequence-claims : ℕ → sequence-lts.Claims
 sequence-claims t = (word-reads.Asked, word-reads.Learnt, walk-below t, walk.Post)
 
 abbrev unroll-claims : ℕ → unroll-lts.Claims
-unroll-claims t = (walk-below t, walk.Post, joined-reads.Asked, joined-reads.Learnt, unroll-below t, unroll.Post)
+unroll-claims t = (
+  jumps-reads.Asked,
+  jumps-reads.Learnt,
+  skipped-reads.Asked,
+  skipped-reads.Learnt,
+  unroll-below t,
+  unroll.Post,
+  walk-below t,
+  walk.Post,
+  joined-reads.Asked,
+  joined-reads.Learnt,
+  watched-reads.Asked,
+  watched-reads.Learnt,
+)
 
 abbrev walk-claims : ℕ → walk-lts.Claims
 walk-claims t = (
@@ -315,57 +331,114 @@ unroll-returns : (t : ℕ) → unroll-lts.Need-returns (unroll-claims t) (unroll
 unroll-returns t c =
     let s = c .before .before in
     let a = s .args in
-    rw (c .if1 .taken) (none-left (a .k .bus) (treeAt (a .image .now) (a .body)) (a .least) (a .done) (a .p) (s .pre .1 .within) (s .pre .1 .within-out))
+    none-unrolls (a .image .now) (a .k) (a .places .now) (a .body) (a .done) (a .left) (a .p) (a .w) (s .pre .1) (c .if1 .taken) (a .least)
 
-unroll-walk-requires : (t : ℕ) → unroll-lts.Need-walk-requires (unroll-claims t) (unroll-at t) unroll.Post
-unroll-walk-requires t c κs =
+unroll-jumps-requires : (t : ℕ) → unroll-lts.Need-jumps-requires (unroll-claims t) (unroll-at t) unroll.Post
+unroll-jumps-requires t c κs =
+    let s = c .before .before in
+    let a = s .args in
+    omega (arith, s .pre .1 .small .cycle-most, s .pre .1 .many)
+
+unroll-skipped-requires : (t : ℕ) → unroll-lts.Need-skipped-requires (unroll-claims t) (unroll-at t) unroll.Post
+unroll-skipped-requires t c κs =
     let s = c .before .before .before .before in
     let a = s .args in
-    (omega (arith, s .pre .0), one-ready (a .image .now) (a .k) (a .places .now) (a .body) (a .done) (a .left) (a .p) (s .pre .1) (c .before .if2 .taken))
+    skip-small (a .image .now) (a .k) (a .places .now) (a .body) (a .done) (a .left) (a .p) (a .w) (s .pre .1) (c .before .jumps .result) (c .before .jumps .ensures) (c .if2 .taken)
 
-unroll-joined-requires : (t : ℕ) → unroll-lts.Need-joined-requires (unroll-claims t) (unroll-at t) unroll.Post
-unroll-joined-requires t c κs =
-    let s = c .before .before .before .before .before in
-    let a = s .args in (
-      omega (arith, s .pre .1 .many),
-      omega (
-        arith,
-        rw (c .before .before .if2 .taken) at (s .pre .1 .few),
-        outcome-small (a .image .now) (a .k) (a .places .now) (s .pre .1 .walkable) (a .body) (s .pre .1 .low) (a .p .cur) (c .walk .result) (c .walk .ensures),
-      ),
-    )
-
-unroll-returns-2 : (t : ℕ) → unroll-lts.Need-returns-2 (unroll-claims t) (unroll-at t) unroll.Post
-unroll-returns-2 t c =
-    let s = c .before .before .before .before .before .before in
+unroll-mul-skip : (t : ℕ) → unroll-lts.Need-mul-skip (unroll-claims t) (unroll-at t) unroll.Post
+unroll-mul-skip t c =
+    let s = c .before .before .before .before .before .before .before .before in
     let a = s .args in
-    rw (c .before .before .before .if2 .taken)
-    (one-left (a .k .bus) (treeAt (a .image .now) (a .body)) (a .least) (a .done) (a .p) (c .before .walk .result) (c .joined .result) (s .pre .1 .within-out) (c .before .walk .ensures) (c .joined .ensures (a .k .bus)))
+    omega (arith, skip-fits (a .image .now) (a .k) (a .places .now) (a .body) (a .done) (a .left) (a .p) (a .w) (s .pre .1) (c .before .before .before .before .before .jumps .result) (c .before .before .before .before .before .jumps .ensures) (c .before .before .before .before .if2 .taken))
+
+unroll-add-unroll : (t : ℕ) → unroll-lts.Need-add-unroll (unroll-claims t) (unroll-at t) unroll.Post
+unroll-add-unroll t c =
+    let s = c .before .before .before .before .before .before .before .before in
+    let a = s .args in
+    omega (arith, skip-fits (a .image .now) (a .k) (a .places .now) (a .body) (a .done) (a .left) (a .p) (a .w) (s .pre .1) (c .before .before .before .before .before .jumps .result) (c .before .before .before .before .before .jumps .ensures) (c .before .before .before .before .if2 .taken), s .pre .1 .many)
+
+unroll-sub-unroll : (t : ℕ) → unroll-lts.Need-sub-unroll (unroll-claims t) (unroll-at t) unroll.Post
+unroll-sub-unroll t c =
+    let s = c .before .before .before .before .before .before .before .before in
+    let a = s .args in
+    omega (arith, skip-fits (a .image .now) (a .k) (a .places .now) (a .body) (a .done) (a .left) (a .p) (a .w) (s .pre .1) (c .before .before .before .before .before .jumps .result) (c .before .before .before .before .before .jumps .ensures) (c .before .before .before .before .if2 .taken))
 
 unroll-unroll-requires : (t : ℕ) → unroll-lts.Need-unroll-requires (unroll-claims t) (unroll-at t) unroll.Post
 unroll-unroll-requires t c κs =
-    let s = c .before .before .before in
+    let s = c .before .before .before .before .before .before .before .before in
     let a = s .args in
-    (omega (arith, s .pre .0), half-ready (a .image .now) (a .k) (a .places .now) (a .body) (a .done) (a .left) (a .p) (s .pre .1) (a .left / 2) (omega arith))
+    (omega (arith, s .pre .0, skip-fits (a .image .now) (a .k) (a .places .now) (a .body) (a .done) (a .left) (a .p) (a .w) (s .pre .1) (c .before .before .before .before .before .jumps .result) (c .before .before .before .before .before .jumps .ensures) (c .before .before .before .before .if2 .taken)), skipped-ready (a .image .now) (a .k) (a .places .now) (a .body) (a .done) (a .left) (a .p) (a .w) (s .pre .1) (c .before .before .before .before .before .jumps .result) (c .before .before .before .before .before .jumps .ensures) (c .before .before .before .before .if2 .taken) (c .before .before .before .skipped .result) (c .before .before .before .skipped .ensures))
 
-unroll-add-unroll : (t : ℕ) → unroll-lts.Need-add-unroll (unroll-claims t) (unroll-at t) unroll.Post
-unroll-add-unroll t c = let s = c .before .before .before .before in omega (arith, s .pre .1 .many)
-
-unroll-sub-unroll : (t : ℕ) → unroll-lts.Need-sub-unroll (unroll-claims t) (unroll-at t) unroll.Post
-unroll-sub-unroll t c = omega arith
-
-unroll-unroll-requires-2 : (t : ℕ) → unroll-lts.Need-unroll-requires-2 (unroll-claims t) (unroll-at t) unroll.Post
-unroll-unroll-requires-2 t c κs =
-    let s = c .before .before .before .before in
+unroll-returns-2 : (t : ℕ) → unroll-lts.Need-returns-2 (unroll-claims t) (unroll-at t) unroll.Post
+unroll-returns-2 t c =
+    let s = c .before .before .before .before .before .before .before .before .before in
     let a = s .args in
-    (omega (arith, s .pre .0), other-ready (a .image .now) (a .k) (a .places .now) (a .body) (a .done) (a .left) (a .p) (s .pre .1) (a .least) (a .left / 2) (omega arith) (c .unroll .result) (c .unroll .ensures))
+    skipped-unrolls (a .image .now) (a .k) (a .places .now) (a .body) (a .done) (a .left) (a .p) (a .w) (s .pre .1) (c .before .before .before .before .before .before .jumps .result) (c .before .before .before .before .before .before .jumps .ensures) (c .before .before .before .before .before .if2 .taken) (c .before .before .before .before .skipped .result) (c .before .before .before .before .skipped .ensures) (a .least) (c .unroll .result) (c .unroll .ensures)
+
+unroll-walk-requires : (t : ℕ) → unroll-lts.Need-walk-requires (unroll-claims t) (unroll-at t) unroll.Post
+unroll-walk-requires t c κs =
+    let s = c .before .before .before .before .before .before in
+    let a = s .args in
+    (omega (arith, s .pre .0), one-ready (a .image .now) (a .k) (a .places .now) (a .body) (a .done) (a .left) (a .p) (a .w) (s .pre .1) (c .before .if3 .taken))
+
+unroll-joined-requires : (t : ℕ) → unroll-lts.Need-joined-requires (unroll-claims t) (unroll-at t) unroll.Post
+unroll-joined-requires t c κs =
+    let s = c .before .before .before .before .before .before .before in
+    let a = s .args in (
+      omega (arith, s .pre .1 .many),
+      omega (arith, rw (c .before .before .if3 .taken) at (s .pre .1 .few), outcome-small (a .image .now) (a .k) (a .places .now) (s .pre .1 .walkable) (a .body) (s .pre .1 .low) (a .p .cur) (c .walk .result) (c .walk .ensures)),
+    )
+
+unroll-watched-requires : (t : ℕ) → unroll-lts.Need-watched-requires (unroll-claims t) (unroll-at t) unroll.Post
+unroll-watched-requires t c κs =
+    let s = c .before .before .before .before .before .before .before .before in
+    let a = s .args in
+    let costs = c .joined .ensures (a .k .bus) .costs in (
+      record {
+        gap-most = omega (arith, s .pre .1 .small .gap-most, s .pre .1 .many, c .before .before .before .if3 .taken);
+        span-most = s .pre .1 .small .span-most;
+        cycle-most = omega (arith, s .pre .1 .small .cycle-most, s .pre .1 .many, c .before .before .before .if3 .taken);
+        gain-most = s .pre .1 .small .gain-most;
+      },
+      omega (arith, costs, s .pre .1 .watches .paid),
+      omega (arith, costs, rw (c .before .before .before .if3 .taken) at (s .pre .1 .few), outcome-small (a .image .now) (a .k) (a .places .now) (s .pre .1 .walkable) (a .body) (s .pre .1 .low) (a .p .cur) (c .before .walk .result) (c .before .walk .ensures)),
+    )
 
 unroll-returns-3 : (t : ℕ) → unroll-lts.Need-returns-3 (unroll-claims t) (unroll-at t) unroll.Post
 unroll-returns-3 t c =
-    let a = c .before .before .before .before .before .args in
+    let s = c .before .before .before .before .before .before .before .before .before in
+    let a = s .args in
+    one-unrolls (a .image .now) (a .k) (a .places .now) (a .body) (a .done) (a .left) (a .p) (a .w) (s .pre .1) (c .before .before .before .before .if3 .taken) (a .least) (c .before .before .walk .result) (c .before .joined .result) (c .watched .result) (c .before .before .walk .ensures)
+    (c .before .joined .ensures (a .k .bus)) (c .watched .ensures)
+
+unroll-unroll-requires-2 : (t : ℕ) → unroll-lts.Need-unroll-requires-2 (unroll-claims t) (unroll-at t) unroll.Post
+unroll-unroll-requires-2 t c κs =
+    let s = c .before .before .before .before .before in
+    let a = s .args in
+    (omega (arith, s .pre .0), half-ready (a .image .now) (a .k) (a .places .now) (a .body) (a .done) (a .left) (a .p) (a .w) (s .pre .1) (a .left / 2) (omega arith))
+
+unroll-add-unroll-2 : (t : ℕ) → unroll-lts.Need-add-unroll-2 (unroll-claims t) (unroll-at t) unroll.Post
+unroll-add-unroll-2 t c =
+    let s = c .before .before .before .before .before .before .before .before in
+    let a = s .args in
+    omega (arith, s .pre .1 .many)
+
+unroll-sub-unroll-2 : (t : ℕ) → unroll-lts.Need-sub-unroll-2 (unroll-claims t) (unroll-at t) unroll.Post
+unroll-sub-unroll-2 t c = omega arith
+
+unroll-unroll-requires-3 : (t : ℕ) → unroll-lts.Need-unroll-requires-3 (unroll-claims t) (unroll-at t) unroll.Post
+unroll-unroll-requires-3 t c κs =
+    let s = c .before .before .before .before .before .before .before .before in
+    let a = s .args in
+    (omega (arith, s .pre .0), other-ready (a .image .now) (a .k) (a .places .now) (a .body) (a .done) (a .left) (a .p) (a .w) (s .pre .1) (a .least) (a .left / 2) (omega arith) (c .before .before .unroll2 .result) (c .before .before .unroll2 .ensures))
+
+unroll-returns-4 : (t : ℕ) → unroll-lts.Need-returns-4 (unroll-claims t) (unroll-at t) unroll.Post
+unroll-returns-4 t c =
+    let a = c .before .before .before .before .before .before .before .before .before .args in
     let e : a .left / 2 + (a .left - a .left / 2) ≡ a .left = omega arith in
     rw (← e)
-    (both-left (a .k .bus) (treeAt (a .image .now) (a .body)) (a .least) (a .done) (a .left / 2) (a .left - a .left / 2) (a .p) (c .before .unroll .result) (c .unroll2 .result) (c .before .unroll .ensures) (c .unroll2 .ensures))
+    (both-unroll (a .k .bus) (treeAt (a .image .now) (a .body)) (a .least) (a .done) (a .left / 2) (a .left - a .left / 2) (a .p) (c .before .before .before .unroll2 .result) (c .unroll3 .result)
+    (c .before .before .before .unroll2 .ensures) (c .unroll3 .ensures))
 
 -- ---- walk
 
@@ -471,11 +544,11 @@ walk-returns-4 t c =
 
 walk-returns-5 : (t : ℕ) → walk-lts.Need-returns-5 (walk-claims t) (walk-at t) walk.Post
 walk-returns-5 t c =
-    let s = c .before .before .before .before .before .before .before .before .before .before in
+    let s = c .before .before .before .before .before .before .before .before .before .before .before in
     let a = s .args in
-    let e = sym (c .before .before .before .before .before .before .before .node-at .ensures) ∙ c .before .before .before .before .n5 .given .1 in
-    let x = c .before .before .before .before .n5 .given .0 .0 in
-    loop-done (a .image .now) (a .k) (a .places .now) (a .node) (a .s) (s .pre .1) x e (c .before .before .before-first .result) (c .before .before .before-first .ensures (a .k .bus)) (c .before .unroll .result) (c .before .unroll .ensures)
+    let e = sym (c .before .before .before .before .before .before .before .before .node-at .ensures) ∙ c .before .before .before .before .before .n5 .given .1 in
+    let x = c .before .before .before .before .before .n5 .given .0 .0 in
+    loop-done (a .image .now) (a .k) (a .places .now) (a .node) (a .s) (s .pre .1) x e (c .before .before .before .before-first .result) (c .before .before .before .before-first .ensures (a .k .bus)) (c .before .before .unroll .result) (c .before .before .unroll .ensures)
 
 pub +branch+sequence+unroll+walk-spec : {M : Type 1} → statement M
 +branch+sequence+unroll+walk-spec =
@@ -506,14 +579,22 @@ pub +branch+sequence+unroll+walk-spec : {M : Type 1} → statement M
     (sequence-returns t))
     (λ t. unroll-lts.spec (unroll-claims t) (unroll-at t) unroll.Post
     (unroll-returns t)
-    (unroll-walk-requires t)
-    (unroll-joined-requires t)
-    (unroll-returns-2 t)
-    (unroll-unroll-requires t)
+    (unroll-jumps-requires t)
+    (unroll-skipped-requires t)
+    (unroll-mul-skip t)
     (unroll-add-unroll t)
     (unroll-sub-unroll t)
+    (unroll-unroll-requires t)
+    (unroll-returns-2 t)
+    (unroll-walk-requires t)
+    (unroll-joined-requires t)
+    (unroll-watched-requires t)
+    (unroll-returns-3 t)
     (unroll-unroll-requires-2 t)
-    (unroll-returns-3 t))
+    (unroll-add-unroll-2 t)
+    (unroll-sub-unroll-2 t)
+    (unroll-unroll-requires-3 t)
+    (unroll-returns-4 t))
     λ t. walk-lts.spec (walk-claims t) (walk-at t) walk.Post
     (walk-mul-at t)
     (walk-element-copy-out-at t)

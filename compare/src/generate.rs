@@ -1,0 +1,462 @@
+//! Builds images: the fields, random tasks, and damage done to valid images. Everything follows from the seed.
+
+use crate::cases;
+use crate::image::{judge, Node, Task};
+use std::collections::HashSet;
+
+/// What is known of an image's answer before the reference gives its own.
+#[derive(Clone)]
+pub enum Expected {
+    Open,
+    Accepted,
+    Refused(u64),
+    Text(String),
+}
+
+pub struct Case {
+    pub category: &'static str,
+    pub image: Vec<u8>,
+    pub expected: Expected,
+}
+
+/// The images, each once.
+#[derive(Default)]
+pub struct Cases {
+    pub list: Vec<Case>,
+    seen: HashSet<Vec<u8>>,
+}
+
+impl Cases {
+    pub fn add(&mut self, category: &'static str, image: Vec<u8>, expected: Expected) {
+        if self.seen.insert(image.clone()) {
+            self.list.push(Case { category, image, expected });
+        }
+    }
+
+    /// Leaves out images that take long to calculate.
+    fn add_quick(&mut self, category: &'static str, image: Vec<u8>) {
+        if work(&image) <= MOST_WORK {
+            self.add(category, image, Expected::Open);
+        }
+    }
+}
+
+/// Pseudo-random numbers: xorshift of 64 bits.
+pub struct Random(u64);
+
+impl Random {
+    pub fn new(seed: u64) -> Random {
+        Random(seed.wrapping_mul(0x9e37_79b9_7f4a_7c15) | 1)
+    }
+
+    fn next(&mut self) -> u64 {
+        self.0 ^= self.0 << 13;
+        self.0 ^= self.0 >> 7;
+        self.0 ^= self.0 << 17;
+        self.0.wrapping_mul(0x2545_f491_4f6c_dd1d) >> 16
+    }
+
+    /// a number below `bound`
+    fn below(&mut self, bound: u64) -> u64 {
+        self.next() % bound
+    }
+
+    /// a number from `low` to `high`
+    fn from(&mut self, low: u64, high: u64) -> u64 {
+        low + self.below(high - low + 1)
+    }
+
+    /// true once in `times`
+    fn once_in(&mut self, times: u64) -> bool {
+        self.below(times) == 0
+    }
+
+    fn one_of<'a, T>(&mut self, list: &'a [T]) -> &'a T {
+        &list[self.below(list.len() as u64) as usize]
+    }
+}
+
+// The fields. "Every field is a one-byte tag, a two-byte length of its body, and the body."
+
+pub fn field(tag: u8, body: &[u8]) -> Vec<u8> {
+    let mut bytes = vec![tag];
+    bytes.extend((body.len() as u16).to_be_bytes());
+    bytes.extend(body);
+    bytes
+}
+
+fn numbers(list: &[u16]) -> Vec<u8> {
+    list.iter().flat_map(|number| number.to_be_bytes()).collect()
+}
+
+pub fn bus(cores: u8, slot: u8, core: u8) -> Vec<u8> {
+    field(1, &[cores, slot, core])
+}
+
+pub fn starts(offsets: &[u8]) -> Vec<u8> {
+    field(2, offsets)
+}
+
+pub fn plain(lowest: u16, highest: u16) -> Vec<u8> {
+    field(3, &numbers(&[lowest, highest]))
+}
+
+/// kind 1 may access, kind 2 always accesses
+pub fn bus_block(kind: u8, lowest: u8, highest: u8) -> Vec<u8> {
+    field(4, &[kind, lowest, highest])
+}
+
+pub fn sequence(children: &[u16]) -> Vec<u8> {
+    field(5, &numbers(children))
+}
+
+pub fn branch(arms: &[u16]) -> Vec<u8> {
+    field(6, &numbers(arms))
+}
+
+pub fn looped(least: u16, greatest: u16, body: u16) -> Vec<u8> {
+    field(7, &numbers(&[least, greatest, body]))
+}
+
+/// Plain blocks of 1 cycle.
+pub fn blank_nodes(number: usize) -> Vec<u8> {
+    plain(1, 1).repeat(number)
+}
+
+/// Steps of the calculation above which a random image is left out.
+const MOST_WORK: u64 = 3_000_000;
+
+/// The steps that a calculation offset by offset takes for an image, about; 0 for one that is refused.
+fn work(image: &[u8]) -> u64 {
+    let task = match judge(image) {
+        Ok(task) => task,
+        Err(_) => return 0,
+    };
+    let mut works: Vec<u64> = Vec::new();
+    for node in &task.nodes {
+        let work = match node {
+            Node::Plain { lowest, highest } => 256 + task.bus.period() * (highest - lowest + 1),
+            Node::Access { lowest, highest, .. } => 256 + 2 * task.bus.period() * (highest - lowest + 1),
+            Node::Sequence { children: named } | Node::Branch { arms: named } => {
+                named.iter().fold(256, |sum, &child| (sum + works[child]).min(1 << 40))
+            }
+            Node::Loop { greatest, body, .. } => 256 + greatest * (256 + works[*body]),
+        };
+        works.push(work.min(1 << 40));
+    }
+    works[task.entry()]
+}
+
+/// How large random tasks may become.
+struct Shape {
+    nodes: u64,
+    starts: u64,
+    children: u64,
+    arms: u64,
+    count: u64,
+    /// durations with a range once in so many blocks, and how wide
+    range_once_in: u64,
+    range: u64,
+}
+
+/// Few enough choices that most such tasks can be enumerated.
+const SMALL: Shape = Shape { nodes: 9, starts: 4, children: 4, arms: 3, count: 3, range_once_in: 3, range: 3 };
+const MIDDLE: Shape = Shape { nodes: 16, starts: 12, children: 6, arms: 4, count: 6, range_once_in: 2, range: 12 };
+const LARGE: Shape = Shape { nodes: 40, starts: 256, children: 16, arms: 8, count: 60, range_once_in: 2, range: 63 };
+
+fn random_bus(random: &mut Random) -> (u64, u64, u64) {
+    let (cores, slot) = match random.below(10) {
+        0..=4 => (random.from(2, 4), random.from(1, 6)),
+        5..=6 => {
+            let cores = random.from(2, 16);
+            (cores, random.from(1, (256 / cores).min(128)))
+        }
+        7 => *random.one_of(&[(2, 1), (2, 2), (2, 128), (16, 16), (16, 1), (4, 64), (3, 85), (8, 32), (15, 17), (5, 51)]),
+        _ => (random.from(2, 5), random.from(6, 20)),
+    };
+    let core = match random.below(4) {
+        0 => 0,
+        1 => cores - 1,
+        _ => random.below(cores),
+    };
+    (cores, slot, core)
+}
+
+/// A valid image, but for its depth and visits.
+fn random_task(random: &mut Random, shape: &Shape) -> Vec<u8> {
+    let (cores, slot, core) = random_bus(random);
+    let period = cores * slot;
+
+    // starts at the slot's ends as often as anywhere else
+    let mut from = vec![false; period as usize];
+    let wanted = if random.once_in(8) { shape.starts } else { random.from(1, shape.starts) };
+    for _ in 0..wanted {
+        let offset = match random.below(4) {
+            0 => core * slot + random.below(2),
+            1 => (core + 1) * slot + period - random.from(0, 2),
+            _ => random.below(period),
+        };
+        from[(offset % period) as usize] = true;
+    }
+    let from: Vec<u8> = (0..period).filter(|&offset| from[offset as usize]).map(|offset| offset as u8).collect();
+
+    let mut image = [bus(cores as u8, slot as u8, core as u8), starts(&from)].concat();
+    let nodes = random.from(1, shape.nodes);
+    for own in 0..nodes {
+        // the entry is seldom a block
+        let kind = if own == 0 {
+            random.from(0, 3)
+        } else if own + 1 == nodes && !random.once_in(8) {
+            random.from(4, 9)
+        } else {
+            random.from(0, 9)
+        };
+        image.extend(random_node(random, shape, own, kind, slot, period));
+    }
+    image
+}
+
+fn random_node(random: &mut Random, shape: &Shape, own: u64, kind: u64, slot: u64, period: u64) -> Vec<u8> {
+    // mostly one of the last few nodes, so that most nodes are reached and some are shared
+    let child = |random: &mut Random| {
+        let back = if random.once_in(4) { own } else { own.min(3) };
+        (own - 1 - random.below(back)) as u16
+    };
+    let range = if random.once_in(shape.range_once_in) { random.from(1, shape.range) } else { 0 };
+    match kind {
+        0 | 1 => {
+            let lowest = match random.below(8) {
+                0 => 0,
+                1..=4 => random.below(2 * slot + 2),
+                5 => random.below(period),
+                6 => random.below(3 * period),
+                _ if shape.range > 3 => random.below(65_536),
+                _ => random.below(300),
+            };
+            let highest = (lowest + range).min(65_535);
+            plain(lowest as u16, highest as u16)
+        }
+        2 | 3 => {
+            let lowest = match random.below(4) {
+                0 => slot,
+                1 => 1,
+                _ => random.from(1, slot),
+            };
+            let highest = (lowest + range).min(slot);
+            bus_block(random.from(1, 2) as u8, lowest as u8, highest as u8)
+        }
+        4 | 5 => {
+            let number = random.from(1, shape.children);
+            sequence(&(0..number).map(|_| child(random)).collect::<Vec<_>>())
+        }
+        6 | 7 => {
+            let number = random.from(2, shape.arms);
+            branch(&(0..number).map(|_| child(random)).collect::<Vec<_>>())
+        }
+        _ => {
+            let greatest = match random.below(6) {
+                0 => 0,
+                1 => 1,
+                _ => random.from(1, shape.count),
+            };
+            let least = match random.below(3) {
+                0 => 0,
+                1 => greatest,
+                _ => random.from(0, greatest),
+            };
+            looped(least as u16, greatest as u16, child(random))
+        }
+    }
+}
+
+/// A random task that is accepted and calculated in time.
+fn valid_task(random: &mut Random, shape: &Shape) -> (Vec<u8>, Task) {
+    loop {
+        let image = random_task(random, shape);
+        if let Ok(task) = judge(&image) {
+            if work(&image) <= MOST_WORK {
+                return (image, task);
+            }
+        }
+    }
+}
+
+/// Where each field of an image begins, and where the last ends.
+fn field_places(image: &[u8]) -> Vec<usize> {
+    let mut places = vec![0];
+    let mut place = 0;
+    while place + 3 <= image.len() {
+        place += 3 + usize::from(image[place + 1]) * 256 + usize::from(image[place + 2]);
+        places.push(place.min(image.len()));
+    }
+    places
+}
+
+/// One or more changes to a valid image.
+fn damage(random: &mut Random, valid: &[u8]) -> Vec<u8> {
+    let mut image = valid.to_vec();
+    for _ in 0..random.from(1, 3) {
+        if image.is_empty() {
+            break;
+        }
+        let places = field_places(&image);
+        let at = random.below(image.len() as u64) as usize;
+        let start = *random.one_of(&places[..places.len().max(2) - 1]);
+        let end = *places.iter().find(|&&place| place > start).unwrap_or(&image.len());
+        match random.below(12) {
+            0 => image[at] = random.below(256) as u8,
+            1 => image[at] ^= 1 << random.below(8),
+            2 => image[at] = *random.one_of(&[0, 1, 2, 3, 4, 5, 6, 7, 8, 16, 63, 64, 127, 128, 255]),
+            3 => {
+                image.remove(at);
+            }
+            4 => image.insert(at, random.below(10) as u8),
+            5 => image.truncate(at),
+            // a field left out, doubled, moved to the end, its tag or length changed
+            6 => {
+                image.drain(start..end);
+            }
+            7 => {
+                let copy = image[start..end].to_vec();
+                image.splice(start..start, copy);
+            }
+            8 => {
+                let copy: Vec<u8> = image.drain(start..end).collect();
+                image.extend(copy);
+            }
+            9 => image[start] = random.below(9) as u8,
+            10 if start + 2 < image.len() => image[start + 2] = image[start + 2].wrapping_add(random.from(254, 258) as u8),
+            10 => image.push(0),
+            _ => {
+                for _ in 0..random.from(1, 8) {
+                    image.push(random.below(12) as u8);
+                }
+            }
+        }
+    }
+    image
+}
+
+/// Fields of any kind with numbers of any size.
+fn loose_fields(random: &mut Random) -> Vec<u8> {
+    let (cores, slot, core) = random_bus(random);
+    let mut image = [bus(cores as u8, slot as u8, core as u8), starts(&[random.below(cores * slot) as u8])].concat();
+    let nodes = random.from(1, 12);
+    for own in 0..nodes {
+        let loose = random.once_in(9);
+        let kind = if own == 0 && !loose { random.from(0, 3) } else { random.from(0, 9) };
+        if !loose {
+            image.extend(random_node(random, &SMALL, own, kind, slot, cores * slot));
+            continue;
+        }
+        let near = |random: &mut Random| (own + random.below(3)).saturating_sub(1) as u16;
+        image.extend(match random.below(6) {
+            0 => plain(random.below(200) as u16, random.below(200) as u16),
+            1 => bus_block(random.below(4) as u8, random.below(slot + 2) as u8, random.below(slot + 2) as u8),
+            2 => sequence(&[near(random), near(random)]),
+            3 => branch(&[near(random), 0]),
+            4 => looped(random.below(4) as u16, random.below(4) as u16, near(random)),
+            _ => field(random.below(9) as u8, &vec![random.below(3) as u8; random.below(9) as usize]),
+        });
+    }
+    image
+}
+
+/// All images: those written by hand, the damaged ones, and random ones until there are `wanted`.
+pub fn all(seed: u64, wanted: usize) -> Vec<Case> {
+    let mut random = Random::new(seed);
+    let mut all = Cases::default();
+    cases::worked(&mut all);
+    cases::limits(&mut all);
+    cases::depth_and_visits(&mut all);
+    cases::order(&mut all);
+    cases::sizes(&mut all);
+
+    // the images that are damaged: the shorter worked ones and some random ones with many nodes
+    let mut models: Vec<Vec<u8>> = all
+        .list
+        .iter()
+        .filter(|case| case.category == "worked" && case.image.len() < 60)
+        .map(|case| case.image.clone())
+        .collect();
+    models.retain(|image| judge(image).is_ok() && work(image) <= MOST_WORK);
+    while models.len() < 28 {
+        let (image, task) = valid_task(&mut random, &SMALL);
+        if task.nodes.len() >= 4 {
+            models.push(image);
+        }
+    }
+    let spread = models.len() / 12 + 1;
+    for model in models.iter().step_by(spread) {
+        for length in 0..model.len() {
+            all.add_quick("truncated", model[..length].to_vec());
+        }
+    }
+    for model in models.iter().skip(1).step_by(spread) {
+        for at in 0..model.len() {
+            let byte = model[at];
+            for changed in [255, byte.wrapping_add(1), byte.wrapping_sub(1)] {
+                let mut image = model.clone();
+                image[at] = changed;
+                all.add_quick("one byte changed", image);
+            }
+        }
+    }
+    for model in &models {
+        for junk in [1, 2, 3, 7, 50] {
+            for byte in [0, 3, 255] {
+                let mut image = model.clone();
+                image.resize(model.len() + junk, byte);
+                all.add_quick("followed by junk", image);
+            }
+        }
+    }
+    // long loops over short periods: many visits, times above 32 bits
+    for _ in 0..5 {
+        let (least, greatest) = (random.below(9_000) as u16, random.from(9_600, 9_900) as u16);
+        let access = random.from(1, 3) as u8;
+        let children: Vec<u16> = (0..random.from(7, 9)).map(|_| *random.one_of(&[0, 0, 0, 1, 2])).collect();
+        let image = [
+            bus(2, 3, random.below(2) as u8),
+            starts(&[random.below(6) as u8]),
+            plain(65_530, 65_535),
+            bus_block(random.from(1, 2) as u8, 1, access),
+            plain(random.from(65_500, 65_535) as u16, 65_535),
+            sequence(&children),
+            looped(least, greatest, 3),
+        ];
+        all.add("long loops", image.concat(), Expected::Open);
+    }
+
+    while all.list.len() < wanted {
+        match random.below(20) {
+            0..=8 => {
+                let (image, _) = valid_task(&mut random, &SMALL);
+                all.add("small tasks", image, Expected::Accepted);
+            }
+            9..=11 => {
+                let (image, _) = valid_task(&mut random, &MIDDLE);
+                all.add("middle tasks", image, Expected::Accepted);
+            }
+            12 => {
+                let (image, _) = valid_task(&mut random, &LARGE);
+                all.add("large tasks", image, Expected::Accepted);
+            }
+            13 => {
+                let image = random_task(&mut random, &LARGE);
+                all.add_quick("any depth and visits", image);
+            }
+            14..=16 => {
+                let shape = if random.once_in(2) { &SMALL } else { &MIDDLE };
+                let (image, _) = valid_task(&mut random, shape);
+                let image = damage(&mut random, &image);
+                all.add_quick("damaged", image);
+            }
+            _ => {
+                let image = loose_fields(&mut random);
+                all.add_quick("loose fields", image);
+            }
+        }
+    }
+    all.list
+}

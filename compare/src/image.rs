@@ -1,0 +1,214 @@
+//! Judges a task image: document 01, "The task image" and "When no figure is given".
+
+pub const MOST_NODES: usize = 256;
+pub const MOST_DEPTH: u64 = 24;
+pub const MOST_VISITS: u64 = 100_000;
+
+/// The bus and the task's core on it.
+#[derive(Clone, Debug, Default)]
+pub struct Bus {
+    pub cores: u64,
+    pub slot: u64,
+    pub core: u64,
+}
+
+impl Bus {
+    /// "a period P = cores × slot"
+    pub fn period(&self) -> u64 {
+        self.cores * self.slot
+    }
+}
+
+/// "A node is one of five kinds, each with its own numbers."
+#[derive(Clone, Debug)]
+pub enum Node {
+    Plain { lowest: u64, highest: u64 },
+    Access { may: bool, lowest: u64, highest: u64 },
+    Sequence { children: Vec<usize> },
+    Branch { arms: Vec<usize> },
+    Loop { least: u64, greatest: u64, body: usize },
+}
+
+/// An accepted image. The last node is the entry.
+#[derive(Clone, Debug, Default)]
+pub struct Task {
+    pub bus: Bus,
+    pub starts: Vec<u64>,
+    pub nodes: Vec<Node>,
+}
+
+impl Task {
+    pub fn entry(&self) -> usize {
+        self.nodes.len() - 1
+    }
+}
+
+#[derive(Clone, Copy, PartialEq, Eq, Debug)]
+pub struct Refusal {
+    pub number: u64,
+    pub place: u64,
+}
+
+/// "Fields are judged from the front. Within one the order is: head cut, 2, 3, 4, body cut, 5, 6. Then 7, 8, 9, 10."
+pub fn judge(image: &[u8]) -> Result<Task, Refusal> {
+    let mut task = Task::default();
+    let mut place = 0;
+    let mut fields = 0;
+    while place < image.len() {
+        let refuse = |number: u64| Err(Refusal { number, place: place as u64 });
+        let left = image.len() - place;
+        // "1 or 2 bytes left where a field's head should stand"
+        if left < 3 {
+            return refuse(1);
+        }
+        let tag = image[place];
+        // "the first field's tag is not 1, the second's not 2, or a later one's not 3 to 7"
+        let tag_fits = match fields {
+            0 => tag == 1,
+            1 => tag == 2,
+            _ => (3..=7).contains(&tag),
+        };
+        if !tag_fits {
+            return refuse(2);
+        }
+        // "a 257th node field"
+        if fields >= 2 && task.nodes.len() == MOST_NODES {
+            return refuse(3);
+        }
+        // "body length not in the tag's row"
+        let length = two_bytes(&image[place + 1..]) as usize;
+        if !length_in_row(tag, length) {
+            return refuse(4);
+        }
+        // "fewer bytes left than its length for its body"
+        if left - 3 < length {
+            return refuse(1);
+        }
+        let body = &image[place + 3..place + 3 + length];
+        if !values_in_row(tag, body, &task.bus) {
+            return refuse(5);
+        }
+        // "a child number not below the node's own"
+        let own = task.nodes.len() as u64;
+        if children(tag, body).iter().any(|&child| child >= own) {
+            return refuse(6);
+        }
+        match tag {
+            1 => task.bus = Bus { cores: body[0].into(), slot: body[1].into(), core: body[2].into() },
+            2 => task.starts = body.iter().map(|&o| o.into()).collect(),
+            _ => task.nodes.push(node(tag, body)),
+        }
+        place += 3 + length;
+        fields += 1;
+    }
+    let refuse = |number: u64| Err(Refusal { number, place: image.len() as u64 });
+    // "the image ends, between fields, before a node field"
+    if task.nodes.is_empty() {
+        return refuse(7);
+    }
+    if depths(&task.nodes)[task.entry()] > MOST_DEPTH {
+        return refuse(8);
+    }
+    if visits(&task.nodes)[task.entry()] > MOST_VISITS {
+        return refuse(9);
+    }
+    Ok(task)
+}
+
+/// "Numbers of two bytes have the high byte first."
+fn two_bytes(bytes: &[u8]) -> u64 {
+    u64::from(bytes[0]) * 256 + u64::from(bytes[1])
+}
+
+fn length_in_row(tag: u8, length: usize) -> bool {
+    match tag {
+        1 | 4 => length == 3,
+        2 => (1..=256).contains(&length),
+        3 => length == 4,
+        5 => (2..=32).contains(&length) && length % 2 == 0,
+        6 => (4..=16).contains(&length) && length % 2 == 0,
+        7 => length == 6,
+        _ => false,
+    }
+}
+
+/// "a number that breaks its row's rules, order and products included; child numbers are left to 6"
+fn values_in_row(tag: u8, body: &[u8], bus: &Bus) -> bool {
+    match tag {
+        1 => {
+            let (cores, slot, core) = (u64::from(body[0]), u64::from(body[1]), u64::from(body[2]));
+            (2..=16).contains(&cores) && (1..=128).contains(&slot) && core < cores && cores * slot <= 256
+        }
+        2 => {
+            let below_period = body.iter().all(|&o| u64::from(o) < bus.period());
+            let strictly_ascending = body.windows(2).all(|pair| pair[0] < pair[1]);
+            below_period && strictly_ascending
+        }
+        3 => {
+            let (lowest, highest) = (two_bytes(body), two_bytes(&body[2..]));
+            lowest <= highest && highest - lowest <= 63
+        }
+        4 => {
+            let (kind, lowest, highest) = (body[0], u64::from(body[1]), u64::from(body[2]));
+            (kind == 1 || kind == 2) && 1 <= lowest && lowest <= highest && highest <= bus.slot
+        }
+        7 => {
+            let (least, greatest) = (two_bytes(body), two_bytes(&body[2..]));
+            least <= greatest && greatest <= 10_000
+        }
+        _ => true,
+    }
+}
+
+/// The child numbers named by a field; none in a bus, starts or block field.
+fn children(tag: u8, body: &[u8]) -> Vec<u64> {
+    match tag {
+        5 | 6 => body.chunks(2).map(two_bytes).collect(),
+        7 => vec![two_bytes(&body[4..])],
+        _ => Vec::new(),
+    }
+}
+
+fn node(tag: u8, body: &[u8]) -> Node {
+    let named: Vec<usize> = children(tag, body).iter().map(|&child| child as usize).collect();
+    match tag {
+        3 => Node::Plain { lowest: two_bytes(body), highest: two_bytes(&body[2..]) },
+        4 => Node::Access { may: body[0] == 1, lowest: body[1].into(), highest: body[2].into() },
+        5 => Node::Sequence { children: named },
+        6 => Node::Branch { arms: named },
+        _ => Node::Loop { least: two_bytes(body), greatest: two_bytes(&body[2..]), body: named[0] },
+    }
+}
+
+/// "The depth of a block is 1, of another node 1 plus that of its deepest child."
+pub fn depths(nodes: &[Node]) -> Vec<u64> {
+    let mut depths: Vec<u64> = Vec::new();
+    for node in nodes {
+        let depth = match node {
+            Node::Plain { .. } | Node::Access { .. } => 1,
+            Node::Sequence { children: named } | Node::Branch { arms: named } => {
+                1 + named.iter().map(|&child| depths[child]).max().unwrap_or(0)
+            }
+            Node::Loop { body, .. } => 1 + depths[*body],
+        };
+        depths.push(depth);
+    }
+    depths
+}
+
+/// "The visits of a block are 1; of a sequence or branch 1 plus the sum over its children; of a loop 1 plus greatest
+/// count × visits of its body." The lesser of that and 100,001: exact up to 100,000, and 0 × many stays 0.
+pub fn visits(nodes: &[Node]) -> Vec<u64> {
+    let mut visits: Vec<u64> = Vec::new();
+    for node in nodes {
+        let all = match node {
+            Node::Plain { .. } | Node::Access { .. } => 1,
+            Node::Sequence { children: named } | Node::Branch { arms: named } => {
+                1 + named.iter().map(|&child| visits[child]).sum::<u64>()
+            }
+            Node::Loop { greatest, body, .. } => 1 + greatest * visits[*body],
+        };
+        visits.push(all.min(MOST_VISITS + 1));
+    }
+    visits
+}

@@ -1,0 +1,296 @@
+//! Compares the program `figure` with the reference, byte for byte, on many images and in several ways of giving an input.
+//!
+//! compare [--seed N] [--images N] [--threads N] [--limit SECONDS] [--seconds N] [--stop-after N] [PROGRAM [WORDS...]]
+//!
+//! --limit is the time that one run of the program may take, --seconds the time for all; --stop-after ends the comparison
+//! after so many failures. The last line is 'N passed, M failed'; the exit status is 0 only if nothing failed and at least
+//! 20,000 passed. A test that was not performed failed.
+
+mod cases;
+mod child;
+mod generate;
+mod image;
+mod offsets;
+mod reference;
+mod runs;
+
+use child::{Feed, Program, Watched};
+use generate::{Case, Expected};
+use reference::Way;
+use std::collections::BTreeMap;
+use std::process::exit;
+use std::sync::atomic::{AtomicBool, AtomicUsize, Ordering};
+use std::sync::Mutex;
+use std::time::{Duration, Instant};
+
+/// Steps lent to the enumeration of one image's runs.
+const STEPS: u64 = 400_000;
+const LEAST_PASSED: usize = 20_000;
+/// Differences that are printed in full.
+const SHOWN: usize = 5;
+
+struct Options {
+    seed: u64,
+    images: usize,
+    threads: usize,
+    limit: u64,
+    seconds: u64,
+    stop_after: usize,
+    program: Program,
+}
+
+/// One test: an image, or a special way of giving an input.
+struct Test {
+    case: Case,
+    feed: Feed,
+}
+
+struct Failure {
+    test: usize,
+    /// the program's answer is at fault, and not the reference's
+    by_program: bool,
+    why: String,
+    expected: String,
+    got: String,
+}
+
+/// What was met, over all tests.
+#[derive(Default)]
+struct Summary {
+    failures: Vec<Failure>,
+    done: usize,
+    /// by category: tests and failures
+    categories: BTreeMap<&'static str, (usize, usize)>,
+    /// by refusal number
+    refused: BTreeMap<u64, usize>,
+    enumerated: usize,
+    runs: u64,
+    calculated: usize,
+}
+
+fn options() -> Result<Options, String> {
+    let threads = std::thread::available_parallelism().map_or(2, |number| number.get()).min(8);
+    let program = Program { path: "target/bin/figure".to_string(), words: Vec::new() };
+    let mut options = Options { seed: 1, images: 24_000, threads, limit: 30, seconds: 140, stop_after: usize::MAX, program };
+    let mut words = std::env::args().skip(1);
+    while let Some(word) = words.next() {
+        if !word.starts_with("--") {
+            options.program = Program { path: word, words: words.collect() };
+            break;
+        }
+        let number = words.next().and_then(|number| number.parse::<u64>().ok()).ok_or(format!("{word} needs a number"))?;
+        match word.as_str() {
+            "--seed" => options.seed = number,
+            "--images" => options.images = number as usize,
+            "--threads" => options.threads = number.max(1) as usize,
+            "--limit" => options.limit = number,
+            "--seconds" => options.seconds = number,
+            "--stop-after" => options.stop_after = number as usize,
+            _ => return Err(format!("unknown option {word}")),
+        }
+    }
+    Ok(options)
+}
+
+/// Ways of giving an input other than all at once through a pipe.
+fn specials() -> Vec<Test> {
+    let mut tests = Vec::new();
+    let mut add = |category, image: &[u8], feed| {
+        let case = Case { category, image: image.to_vec(), expected: Expected::Open };
+        tests.push(Test { case, feed });
+    };
+    let pause = Duration::from_micros(400);
+    let twice: Vec<u8> =
+        [generate::bus(2, 5, 0), generate::starts(&[3, 5]), generate::bus_block(2, 2, 2), generate::sequence(&[0, 0])].concat();
+    let refused = [twice.clone(), generate::plain(1, 0)].concat();
+    let cut = twice[..twice.len() - 1].to_vec();
+    let longest = cases::longest_image(&|_| 254);
+
+    for image in [&twice, &refused, &cut] {
+        for size in [1, 2, 3, 4, 5, 7, 11] {
+            add("in pieces", image, Feed::Pieces { size, pause });
+        }
+        add("in pieces", image, Feed::Pieces { size: 10, pause: Duration::from_millis(40) });
+    }
+    for size in [97, 512, 1_000, 4_096, 8_192, 9_196] {
+        add("in pieces", &longest, Feed::Pieces { size, pause });
+        add("in pieces", &[&longest[..], &[3]].concat(), Feed::Pieces { size, pause });
+        add("in pieces", &[&longest[..], &[3, 0, 4]].concat(), Feed::Pieces { size, pause });
+    }
+
+    // an input without end: what is judged are its first 16,384 bytes
+    add("endless", &[], Feed::Endless { again: vec![0; 4_096] });
+    add("endless", &[], Feed::Endless { again: vec![1, 0, 3, 2, 5, 0] });
+    add("endless", &twice, Feed::Endless { again: vec![255; 1_000] });
+    add("endless", &twice, Feed::Endless { again: generate::plain(1, 2) });
+    add("endless", &longest, Feed::Endless { again: generate::plain(1, 2) });
+    add("endless", &longest, Feed::Endless { again: vec![9; 70_000] });
+    // "reads at most 16,384 bytes": it does not wait for more
+    add("left open", &vec![0; reference::MOST_BYTES], Feed::LeftOpen);
+    let mut full = longest.clone();
+    full.resize(reference::MOST_BYTES, 5);
+    add("left open", &full, Feed::LeftOpen);
+
+    for image in [&twice, &refused, &longest, &full] {
+        add("from a file", image, Feed::FromFile { most: reference::MOST_BYTES as u64 });
+    }
+    for size in [16_385, 20_000, 100_000] {
+        full.resize(size, 6);
+        add("from a file", &full, Feed::FromFile { most: reference::MOST_BYTES as u64 });
+    }
+
+    // "`refused 7 0` for an empty input": no byte can be read in each of these
+    add("no input", &[], Feed::Nothing);
+    add("no input", &[], Feed::Closed);
+    add("no input", &[], Feed::Pieces { size: 1, pause });
+    add("no input", &[], Feed::FromFile { most: 0 });
+    tests
+}
+
+/// The input that the program can read: for an endless one a beginning that is long enough.
+fn readable(test: &Test) -> Vec<u8> {
+    let mut input = test.case.image.clone();
+    if let Feed::Endless { again } = &test.feed {
+        while input.len() < reference::MOST_BYTES {
+            input.extend(again);
+        }
+    }
+    input
+}
+
+/// Runs one test and enters it in the summary.
+fn perform(number: usize, test: &Test, thread: usize, options: &Options, watched: &Watched, summary: &Mutex<Summary>) {
+    let answer = reference::answer(&readable(test), STEPS);
+    let by_hand = match (&test.case.expected, &answer.way) {
+        (Expected::Open, _) => true,
+        (Expected::Accepted, way) => !matches!(way, Way::Refused(_)),
+        (Expected::Refused(expected), way) => matches!(way, Way::Refused(number) if number == expected),
+        (Expected::Text(expected), _) => *expected == answer.text,
+    };
+    let got = child::run(&options.program, &test.case.image, &test.feed, thread, watched);
+
+    let failure = |by_program: bool, why: &str, got: &str| Failure {
+        test: number,
+        by_program,
+        why: why.to_string(),
+        expected: answer.text.clone(),
+        got: got.to_string(),
+    };
+    let failed = if let Some(doubt) = &answer.doubt {
+        Some(failure(false, "the reference contradicts itself", doubt))
+    } else if !by_hand {
+        Some(failure(false, "the reference differs from what was written by hand", ""))
+    } else {
+        match &got {
+            Err(error) => Some(failure(true, "no answer", error)),
+            Ok(output) if *output != answer.text.as_bytes() => {
+                Some(failure(true, "a difference", &String::from_utf8_lossy(output)))
+            }
+            Ok(_) => None,
+        }
+    };
+
+    let mut summary = summary.lock().unwrap();
+    summary.done += 1;
+    let category = summary.categories.entry(test.case.category).or_default();
+    category.0 += 1;
+    category.1 += usize::from(failed.is_some());
+    summary.failures.extend(failed);
+    match answer.way {
+        Way::Refused(number) => *summary.refused.entry(number).or_default() += 1,
+        Way::Enumerated { runs } => {
+            summary.enumerated += 1;
+            summary.runs += runs;
+        }
+        Way::Calculated => summary.calculated += 1,
+    }
+}
+
+fn hexadecimal(bytes: &[u8]) -> String {
+    bytes.iter().map(|byte| format!("{byte:02x}")).collect()
+}
+
+fn main() {
+    let options = options().unwrap_or_else(|error| {
+        println!("{error}\n0 passed, 1 failed");
+        exit(1)
+    });
+    if !std::path::Path::new(&options.program.path).is_file() {
+        println!("missing: {}\n0 passed, 1 failed", options.program.path);
+        exit(1);
+    }
+    let begun = Instant::now();
+    let mut tests = specials();
+    tests.extend(generate::all(options.seed, options.images).into_iter().map(|case| Test { case, feed: Feed::Whole }));
+
+    let summary = Mutex::new(Summary::default());
+    let watched = Watched::new(options.threads, Duration::from_secs(options.limit));
+    let next = AtomicUsize::new(0);
+    let finished = AtomicBool::new(false);
+    std::thread::scope(|scope| {
+        let workers: Vec<_> = (0..options.threads)
+            .map(|thread| {
+                let (tests, next, options, watched, summary) = (&tests, &next, &options, &watched, &summary);
+                scope.spawn(move || loop {
+                    let number = next.fetch_add(1, Ordering::Relaxed);
+                    let out_of_time = begun.elapsed().as_secs() >= options.seconds;
+                    let failures = summary.lock().map_or(0, |summary| summary.failures.len());
+                    if number >= tests.len() || out_of_time || failures >= options.stop_after {
+                        break;
+                    }
+                    perform(number, &tests[number], thread, options, watched, summary);
+                })
+            })
+            .collect();
+        scope.spawn(|| {
+            while !finished.load(Ordering::Relaxed) {
+                watched.watch();
+                std::thread::sleep(Duration::from_millis(50));
+            }
+        });
+        let ends: Vec<_> = workers.into_iter().map(|worker| worker.join()).collect();
+        finished.store(true, Ordering::Relaxed);
+        if ends.iter().any(|end| end.is_err()) {
+            println!("a thread of the comparison broke off");
+        }
+    });
+
+    let mut summary = summary.into_inner().unwrap_or_else(|broken| broken.into_inner());
+    summary.failures.sort_by_key(|failure| failure.test);
+    for failure in summary.failures.iter().take(SHOWN) {
+        let case = &tests[failure.test].case;
+        println!("{}: {}", case.category, failure.why);
+        println!("  image    {}", hexadecimal(&case.image));
+        println!("  expected {:?}", failure.expected);
+        println!("  got      {:?}", failure.got);
+    }
+    if summary.failures.len() > SHOWN {
+        println!("and {} more", summary.failures.len() - SHOWN);
+    }
+    println!("seed {}, {} threads, {:.1} s", options.seed, options.threads, begun.elapsed().as_secs_f64());
+    for (category, (all, failed)) in &summary.categories {
+        println!("  {category:<22} {all:>6}{}", if *failed > 0 { format!("  {failed} failed") } else { String::new() });
+    }
+    println!("accepted: {} enumerated in {} runs, {} by calculation", summary.enumerated, summary.runs, summary.calculated);
+    let refused: Vec<String> = summary.refused.iter().map(|(number, all)| format!("{number}: {all}")).collect();
+    println!("refused by number: {}", refused.join(", "));
+    let differences = summary.failures.iter().filter(|failure| failure.by_program).count();
+    println!("wrong answers of the program: {differences} in {} tests performed", summary.done);
+
+    let mut failed = summary.failures.len();
+    let mut passed = summary.done - failed;
+    // every answer of the paper that `figure` can give was met, and runs were enumerated: one test
+    let met = (1..=9).all(|number| summary.refused.get(&number).copied().unwrap_or(0) >= 10);
+    if met && summary.enumerated >= 500 && summary.calculated >= 100 {
+        passed += 1;
+    } else {
+        println!("too few images of some kind");
+        failed += 1;
+    }
+    if summary.done < tests.len() {
+        println!("{} tests were not performed", tests.len() - summary.done);
+        failed += tests.len() - summary.done;
+    }
+    println!("{passed} passed, {failed} failed");
+    exit(i32::from(failed > 0 || passed < LEAST_PASSED));
+}

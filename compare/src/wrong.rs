@@ -1,0 +1,640 @@
+//! Behaves like `figure`; with `--fault NAME` it has that one fault of wrong/faults.txt. It shares no code with the reference.
+//!
+//! wrong [--fault NAME]
+
+use std::collections::{BTreeMap, BTreeSet};
+use std::io::{Read, Write};
+use std::process::{abort, exit};
+
+const FAULTS: &str = include_str!("../wrong/faults.txt");
+
+struct Fault(String);
+
+impl Fault {
+    fn is(&self, name: &str) -> bool {
+        self.0 == name
+    }
+}
+
+struct Node {
+    tag: u8,
+    place: usize,
+    /// kind of a bus block
+    kind: u8,
+    /// what a fault let through until the entry reaches it
+    refusal: Option<Refusal>,
+    /// durations, or counts of a loop
+    low: u64,
+    high: u64,
+    children: Vec<usize>,
+}
+
+#[derive(Default)]
+struct Image {
+    cores: u64,
+    slot: u64,
+    core: u64,
+    starts: Vec<u64>,
+    nodes: Vec<Node>,
+}
+
+impl Image {
+    fn period(&self) -> u64 {
+        self.cores * self.slot
+    }
+}
+
+type Times = BTreeMap<u64, u64>;
+type Set = BTreeSet<u64>;
+type Refusal = (u64, usize);
+
+fn main() {
+    let words: Vec<String> = std::env::args().skip(1).collect();
+    let fault = match &words[..] {
+        [] => Fault(String::new()),
+        [option, name] if option == "--fault" && FAULTS.lines().any(|line| line.starts_with(&format!("{name}: "))) => {
+            Fault(name.clone())
+        }
+        _ => {
+            eprintln!("wrong [--fault NAME]");
+            exit(2)
+        }
+    };
+    let input = read_input(&fault);
+    let text = match judge(&fault, &input) {
+        Ok(image) => figures(&fault, &image),
+        Err((number, place)) => format!("refused {} {place}\n", if fault.is("cut-to-all") { 1 } else { number }),
+    };
+    let text = if fault.is("no-last-line-feed") { text.trim_end() } else { &text };
+    let _ = std::io::stdout().write_all(text.as_bytes());
+    let _ = std::io::stdout().flush();
+    if fault.is("killed-after") {
+        abort();
+    }
+}
+
+fn read_input(fault: &Fault) -> Vec<u8> {
+    let most = if fault.is("stops-at-9197") { 9_197 } else { 16_384 };
+    let mut buffer = vec![0; most];
+    let mut filled = 0;
+    // standard input is read directly, without a buffer that would read more
+    let mut input = input_file();
+    while filled < most {
+        match input.read(&mut buffer[filled..]) {
+            Ok(0) | Err(_) => break,
+            Ok(read) => filled += read,
+        }
+        if fault.is("first-piece") {
+            break;
+        }
+    }
+    if fault.is("reads-on") {
+        let mut rest = [0; 4_096];
+        while matches!(input.read(&mut rest), Ok(read) if read > 0) {}
+    }
+    buffer.truncate(filled);
+    buffer
+}
+
+fn input_file() -> std::fs::File {
+    use std::os::unix::io::AsFd;
+    let input = std::io::stdin().as_fd().try_clone_to_owned();
+    input.map_or_else(|_| std::fs::File::open("/dev/null").expect("/dev/null"), std::fs::File::from)
+}
+
+fn two_bytes(fault: &Fault, bytes: &[u8]) -> u64 {
+    if fault.is("low-byte-first") {
+        bytes[1] as u64 * 256 + bytes[0] as u64
+    } else {
+        bytes[0] as u64 * 256 + bytes[1] as u64
+    }
+}
+
+/// The refusals within a field, after its head is known to be whole.
+#[derive(Clone, Copy)]
+enum Check {
+    Tag,
+    Full,
+    Length,
+    Cut,
+    Value,
+    Forward,
+}
+
+fn judge(fault: &Fault, bytes: &[u8]) -> Result<Image, Refusal> {
+    use Check::*;
+    let order = match fault.0.as_str() {
+        "full-before-tag" => [Full, Tag, Length, Cut, Value, Forward],
+        "length-before-full" => [Tag, Length, Full, Cut, Value, Forward],
+        "cut-before-length" => [Tag, Full, Cut, Length, Value, Forward],
+        "value-before-cut" => [Tag, Full, Length, Value, Cut, Forward],
+        "forward-before-value" => [Tag, Full, Length, Cut, Forward, Value],
+        _ => [Tag, Full, Length, Cut, Value, Forward],
+    };
+    let mut image = Image::default();
+    let mut place = 0;
+    let mut number = 0;
+    while place < bytes.len() {
+        let rest = &bytes[place..];
+        let shown = if fault.is("place-after-head") { place + 3 } else { place };
+        let tag = rest[0];
+        let tag_good = match number {
+            0 => tag == 1,
+            1 => tag == 2 || fault.is("second-tag-free") && (3..8).contains(&tag),
+            _ => (3..8).contains(&tag),
+        };
+        if rest.len() < 3 {
+            if fault.is("trailing-ignored") && !image.nodes.is_empty() {
+                break;
+            }
+            if fault.is("trailing-unfinished") {
+                return Err((7, bytes.len()));
+            }
+            return Err((if fault.is("tag-before-head-cut") && !tag_good { 2 } else { 1 }, shown));
+        }
+        let length = two_bytes(fault, &rest[1..]) as usize;
+        // a cut body is filled up, so that it can be judged in another order
+        let mut body: Vec<u8> = rest[3..].iter().copied().take(length).collect();
+        let there = body.len();
+        body.resize(length.max(6), 0);
+        let nodes_most = match fault.0.as_str() {
+            "node-256-refused" => 255,
+            "node-257-accepted" => 257,
+            _ => 256,
+        };
+        let mut put_off = None;
+        for check in order {
+            let (refusal, holds) = match check {
+                Tag => (2, !tag_good),
+                Full => (3, number >= 2 && image.nodes.len() >= nodes_most),
+                Length => (4, !length_good(fault, tag, length)),
+                Cut => (1, there < length),
+                Value => (5, !value_good(fault, &image, tag, &body[..length.max(6)], length)),
+                Forward => (6, !children_good(fault, image.nodes.len() as u64, tag, &body, length)),
+            };
+            if holds && refusal >= 5 && number >= 2 && fault.is("unreached-unjudged") {
+                put_off = put_off.or(Some((refusal, shown)));
+            } else if holds {
+                return Err((refusal, shown));
+            }
+        }
+        let kind = body[0];
+        match tag {
+            1 => {
+                image.cores = body[0].into();
+                image.slot = body[1].into();
+                image.core = body[2].into();
+            }
+            2 => image.starts = body[..length].iter().map(|&start| start.into()).collect(),
+            _ => {
+                let (low, high) = match tag {
+                    4 => (body[1].into(), body[2].into()),
+                    _ => (two_bytes(fault, &body), two_bytes(fault, &body[2..])),
+                };
+                let own = image.nodes.len();
+                let mut children: Vec<usize> = named(fault, tag, &body, length).iter().map(|&child| child as usize).collect();
+                if put_off.is_some() {
+                    children.retain(|&child| child < own);
+                }
+                image.nodes.push(Node { tag, place, kind, refusal: put_off, low, high, children });
+            }
+        }
+        place += 3 + length;
+        number += 1;
+    }
+    if image.nodes.is_empty() {
+        return Err((7, if fault.is("place-of-unfinished") { 0 } else { bytes.len() }));
+    }
+    if image.starts.is_empty() {
+        image.starts.push(0);
+    }
+    let mut reached: Set = [image.nodes.len() as u64 - 1].into_iter().collect();
+    for number in (0..image.nodes.len()).rev() {
+        if reached.contains(&(number as u64)) {
+            reached.extend(image.nodes[number].children.iter().map(|&child| child as u64));
+        }
+    }
+    let put_off = image.nodes.iter().enumerate().filter(|(number, _)| reached.contains(&(*number as u64)));
+    if let Some(refusal) = put_off.filter_map(|(_, node)| node.refusal).next() {
+        return Err(refusal);
+    }
+    let place = if fault.is("place-of-entry") { image.nodes[image.nodes.len() - 1].place } else { bytes.len() };
+    let (deep, long) = (deep(fault, &image), long(fault, &image));
+    if long && fault.is("long-before-deep") {
+        return Err((9, place));
+    }
+    if deep {
+        return Err((8, place));
+    }
+    if long {
+        return Err((9, place));
+    }
+    Ok(image)
+}
+
+fn length_good(fault: &Fault, tag: u8, length: usize) -> bool {
+    match tag {
+        1 | 4 => length == 3,
+        2 => length >= 1 && length <= if fault.is("starts-255") { 255 } else { 256 },
+        3 => length == 4,
+        5 if fault.is("odd-length") => length >= 2 && length <= 33,
+        5 if fault.is("sequence-17") => length >= 2 && length <= 34 && length % 2 == 0,
+        5 => length >= 2 && length <= 32 && length % 2 == 0,
+        6 if fault.is("one-arm") => length >= 2 && length <= 16 && length % 2 == 0,
+        6 => length >= 4 && length <= 16 && length % 2 == 0,
+        7 => length == 6,
+        _ => false,
+    }
+}
+
+fn value_good(fault: &Fault, image: &Image, tag: u8, body: &[u8], length: usize) -> bool {
+    let one = |place: usize| body[place] as u64;
+    let two = |place: usize| two_bytes(fault, &body[place..]);
+    match tag {
+        1 => {
+            let product = if fault.is("product-in-a-byte") { one(0) * one(1) % 256 } else { one(0) * one(1) };
+            one(0) >= 2
+                && one(0) <= if fault.is("cores-17") { 17 } else { 16 }
+                && one(1) >= 1
+                && one(1) <= if fault.is("slot-129") { 129 } else { 128 }
+                && (one(2) < one(0) || fault.is("core-unchecked"))
+                && (product <= 256 || fault.is("slot-129") && one(1) == 129)
+        }
+        2 => (0..length).all(|place| {
+            let ascending = place == 0 || one(place - 1) < one(place) || fault.is("starts-equal") && one(place - 1) == one(place);
+            ascending && (one(place) < image.period() || fault.is("start-at-period") && one(place) == image.period())
+        }),
+        3 => {
+            let most = if fault.is("difference-64") { 64 } else { 63 };
+            let difference = two(2).wrapping_sub(two(0));
+            let difference = if fault.is("difference-in-a-byte") { difference % 256 } else { difference };
+            two(0) <= two(2) && difference <= most
+        }
+        4 => {
+            let kind = one(0) == 1 || one(0) == 2 || one(0) == 3 && fault.is("kind-3") || one(0) == 0 && fault.is("kind-0");
+            kind && (one(1) >= 1 || fault.is("duration-0"))
+                && one(1) <= one(2)
+                && one(2) <= image.slot + u64::from(fault.is("duration-above-slot"))
+        }
+        7 => {
+            (two(0) <= two(2) || fault.is("least-above-greatest"))
+                && two(2) <= if fault.is("count-10001") { 10_001 } else { 10_000 }
+        }
+        _ => true,
+    }
+}
+
+fn named(fault: &Fault, tag: u8, body: &[u8], length: usize) -> Vec<u64> {
+    let places: Vec<usize> = match tag {
+        5 | 6 => (0..length / 2).map(|child| 2 * child).collect(),
+        7 => vec![4],
+        _ => Vec::new(),
+    };
+    let whole = places.iter().map(|&place| two_bytes(fault, &body[place..]));
+    whole.map(|child| if fault.is("child-in-a-byte") { child % 256 } else { child }).collect()
+}
+
+fn children_good(fault: &Fault, own: u64, tag: u8, body: &[u8], length: usize) -> bool {
+    let mut children = named(fault, tag, body, length);
+    if fault.is("last-child-unchecked") && tag == 5 {
+        children.pop();
+    }
+    children.iter().all(|&child| child < own || fault.is("child-equal") && child == own)
+}
+
+/// A child that a fault let through and that is not there to be executed counts nothing.
+fn of_child(values: &[u64], child: usize) -> u64 {
+    values.get(child).copied().unwrap_or(0)
+}
+
+fn deep(fault: &Fault, image: &Image) -> bool {
+    let most = match fault.0.as_str() {
+        "depth-24-refused" => 23,
+        "depth-25-accepted" => 25,
+        _ => 24,
+    };
+    let mut depths: Vec<u64> = Vec::new();
+    for node in &image.nodes {
+        let idle = node.tag == 7 && node.high == 0 && fault.is("depth-without-idle-body");
+        let below = node.children.iter().map(|&child| of_child(&depths, child)).max().unwrap_or(0);
+        let depth = 1 + if idle { 0 } else { below };
+        depths.push(if fault.is("depth-in-a-byte") { depth % 256 } else { depth });
+    }
+    if fault.is("depth-of-all") {
+        return depths.iter().any(|&depth| depth > most);
+    }
+    depths[depths.len() - 1] > most
+}
+
+fn long(fault: &Fault, image: &Image) -> bool {
+    let most = match fault.0.as_str() {
+        "visits-100000-refused" => 99_999,
+        "visits-100001-accepted" => 100_001,
+        _ => 100_000,
+    };
+    let mut visits: Vec<u64> = Vec::new();
+    for node in &image.nodes {
+        let mut children: Vec<usize> = node.children.clone();
+        if fault.is("visits-of-node-once") {
+            children.sort_unstable();
+            children.dedup();
+        }
+        let each = children.iter().map(|&child| of_child(&visits, child));
+        let largest = each.clone().max().unwrap_or(0);
+        let sum = each.fold(0, u64::wrapping_add);
+        let below = match node.tag {
+            7 if fault.is("visits-of-idle-body") => node.high.max(1).wrapping_mul(sum),
+            7 => node.high.wrapping_mul(sum),
+            6 if fault.is("visits-of-largest-arm") => largest,
+            _ => sum,
+        };
+        let all = below.wrapping_add(1);
+        visits.push(match fault.0.as_str() {
+            "visits-32-bit" => all % (1 << 32),
+            "visits-64-bit" => all,
+            _ => all.min(1 << 40),
+        });
+    }
+    if fault.is("visits-of-all") {
+        return visits.iter().any(|&visits| visits > most);
+    }
+    visits[visits.len() - 1] > most
+}
+
+/// The cycles that a wait takes, by the remainder.
+fn wait(fault: &Fault, image: &Image, offset: u64, e: u64) -> u64 {
+    let core = if fault.is("core-ignored") { 0 } else { image.core };
+    let (slot, period) = (image.slot, image.period());
+    let first = core * slot;
+    // past the end of the slot's last possible start
+    let end = match fault.0.as_str() {
+        "last-cycles" => first + slot,
+        "last-start-lost" => (first + slot).saturating_sub(e).max(first + 1),
+        _ => (first + slot + 1).saturating_sub(e).max(first),
+    };
+    if fault.is("greatest-wait") {
+        return (image.cores - 1) * slot + e - 1;
+    }
+    if first <= offset && offset < end {
+        return 0;
+    }
+    let wait = (first + period - offset % period) % period;
+    match fault.0.as_str() {
+        "wait-one-short" => wait.saturating_sub(1),
+        "wait-one-long" => wait + 1,
+        _ => wait,
+    }
+}
+
+/// The cycles that executions of a block take from an offset.
+fn cycles(fault: &Fault, image: &Image, node: &Node, offset: u64) -> Vec<u64> {
+    let low = match fault.0.as_str() {
+        "highest-only" => node.high,
+        "lowest-lost" => (node.low + 1).min(node.high),
+        _ => node.low,
+    };
+    let mut all = Vec::new();
+    for duration in low..=node.high {
+        let may = node.tag == 4 && node.kind < 2;
+        let accesses = node.tag == 4 && !(may && fault.is("never-accesses"));
+        let passes = node.tag == 3 || may && !fault.is("always-accesses");
+        if passes || !accesses {
+            all.push(if fault.is("times-in-period") { duration % image.period() } else { duration });
+        }
+        if accesses {
+            all.push(wait(fault, image, offset, duration) + duration);
+        }
+    }
+    all
+}
+
+fn keep(fault: &Fault, times: &mut Times, offset: u64, time: u64) {
+    let kept = times.entry(offset).or_insert(time);
+    *kept = if fault.is("shorter-kept") { time.min(*kept) } else { time.max(*kept) };
+}
+
+fn keep_slowest(fault: &Fault, times: Times) -> Times {
+    if !fault.is("slowest-at-join") {
+        return times;
+    }
+    let slowest = times.iter().max_by_key(|&(_, &time)| time).map(|(&offset, &time)| (offset, time));
+    slowest.into_iter().collect()
+}
+
+fn execute(fault: &Fault, image: &Image, number: usize, entry: &Times) -> Times {
+    let node = &image.nodes[number];
+    let mut exits = Times::new();
+    match node.tag {
+        3 | 4 => {
+            let worst = match fault.0.as_str() {
+                "block-worst-case" => entry.keys().flat_map(|&offset| cycles(fault, image, node, offset)).max(),
+                _ => None,
+            };
+            for (&offset, &time) in entry {
+                for cycles in cycles(fault, image, node, offset) {
+                    keep(fault, &mut exits, (offset + cycles) % image.period(), time + worst.unwrap_or(cycles));
+                }
+            }
+            exits
+        }
+        5 => {
+            let mut children = node.children.clone();
+            if fault.is("last-first") {
+                children.reverse();
+            }
+            if fault.is("children-once") {
+                children.dedup();
+            }
+            // a child not below its own number, which a fault let through, is not executed
+            children.retain(|&child| child < number);
+            children.iter().fold(entry.clone(), |times, &child| execute(fault, image, child, &times))
+        }
+        6 => {
+            let arms = if fault.is("first-arm-only") { &node.children[..1] } else { &node.children };
+            for &arm in arms.iter().filter(|&&arm| arm < number) {
+                for (offset, time) in execute(fault, image, arm, entry) {
+                    keep(fault, &mut exits, offset, time);
+                }
+            }
+            keep_slowest(fault, exits)
+        }
+        _ => {
+            let body = node.children[0];
+            if body >= number {
+                return entry.clone();
+            }
+            let inner = &image.nodes[body];
+            if fault.is("choice-kept") && inner.tag == 6 {
+                for &arm in &inner.children {
+                    for (offset, time) in iterate(fault, node, entry, &mut |times| execute(fault, image, arm, times)) {
+                        keep(fault, &mut exits, offset, time);
+                    }
+                }
+                return exits;
+            }
+            if fault.is("choice-kept") && inner.tag == 3 {
+                for duration in inner.low..=inner.high {
+                    let mut step = |times: &Times| {
+                        times.iter().map(|(&o, &time)| ((o + duration) % image.period(), time + duration)).collect()
+                    };
+                    for (offset, time) in iterate(fault, node, entry, &mut step) {
+                        keep(fault, &mut exits, offset, time);
+                    }
+                }
+                return exits;
+            }
+            keep_slowest(fault, iterate(fault, node, entry, &mut |times| execute(fault, image, body, times)))
+        }
+    }
+}
+
+/// The exits of a loop, given what one iteration does.
+fn iterate(fault: &Fault, node: &Node, entry: &Times, step: &mut dyn FnMut(&Times) -> Times) -> Times {
+    let mut exits = Times::new();
+    let mut times = entry.clone();
+    if fault.is("first-iteration-times") && node.high > 0 {
+        let longest = |times: &Times| times.values().copied().max().unwrap_or(0);
+        let first = step(entry);
+        let one = longest(&first).saturating_sub(longest(entry));
+        return first.into_iter().map(|(offset, time)| (offset, time + one * (node.high - 1))).collect();
+    }
+    let permitted = |k: u64| match fault.0.as_str() {
+        "greatest-only" => k == node.high,
+        "fewer-count-too" => true,
+        "count-0-lost" => k >= node.low && (k > 0 || node.high == 0),
+        _ => k >= node.low || k == node.high,
+    };
+    for k in 0..=node.high {
+        if k > 0 {
+            times = step(&times);
+        }
+        if permitted(k) {
+            for (&offset, &time) in &times {
+                keep(fault, &mut exits, offset, time);
+            }
+        }
+    }
+    exits
+}
+
+fn cost(fault: &Fault, image: &Image, number: usize, entry: &Set) -> (u64, Set) {
+    let node = &image.nodes[number];
+    match node.tag {
+        3 | 4 => {
+            let mut exits = Set::new();
+            let mut largest = 0;
+            for &offset in entry {
+                let all = cycles(fault, image, node, offset);
+                exits.extend(all.iter().map(|cycles| (offset + cycles) % image.period()));
+                let longest = all.into_iter().max().unwrap_or(0);
+                largest = match fault.0.as_str() {
+                    "published-highest-offset" => longest,
+                    "published-may-passes" if node.tag == 4 && node.kind < 2 => node.high,
+                    _ => longest.max(largest),
+                };
+            }
+            (largest, exits)
+        }
+        5 => {
+            let mut children = node.children.clone();
+            if fault.is("last-first") {
+                children.reverse();
+            }
+            if fault.is("children-once") {
+                children.dedup();
+            }
+            children.retain(|&child| child < number);
+            let mut sum = 0;
+            let mut set = entry.clone();
+            for child in children {
+                let (one, exits) = cost(fault, image, child, &set);
+                sum += one;
+                set = exits;
+            }
+            (sum, set)
+        }
+        6 => {
+            let arms = if fault.is("first-arm-only") { &node.children[..1] } else { &node.children };
+            let each: Vec<(u64, Set)> =
+                arms.iter().filter(|&&arm| arm < number).map(|&arm| cost(fault, image, arm, entry)).collect();
+            let costs = each.iter().map(|(one, _)| *one);
+            let all = if fault.is("published-arms-added") { costs.sum() } else { costs.max().unwrap_or(0) };
+            (all, each.into_iter().flat_map(|(_, exits)| exits).collect())
+        }
+        _ => {
+            let body = node.children[0];
+            if body >= number {
+                return (0, entry.clone());
+            }
+            let mut sum = 0;
+            let mut set = entry.clone();
+            let mut joined = Set::new();
+            for k in 0..=node.high {
+                if k > 0 {
+                    let (one, exits) = cost(fault, image, body, &set);
+                    if !(fault.is("published-least-count") && k > node.low) {
+                        sum += one;
+                    }
+                    if fault.is("published-first-times") && k == 1 {
+                        sum = one * node.high;
+                    } else if fault.is("published-first-times") {
+                        sum -= one;
+                    }
+                    if fault.is("published-joined-loop") {
+                        set.extend(exits);
+                    } else {
+                        set = exits;
+                    }
+                }
+                if k >= node.low {
+                    joined.extend(&set);
+                }
+            }
+            (sum, joined)
+        }
+    }
+}
+
+fn figures(fault: &Fault, image: &Image) -> String {
+    let entry = image.nodes.len() - 1;
+    let starts: Vec<u64> = match fault.0.as_str() {
+        "first-start-only" => image.starts[..1].to_vec(),
+        _ => image.starts.clone(),
+    };
+    let mut times = execute(fault, image, entry, &starts.iter().map(|&start| (start, 0)).collect());
+    let mut published = cost(fault, image, entry, &starts.iter().copied().collect()).0;
+    if fault.is("published-per-start") {
+        let each = starts.iter().map(|&start| cost(fault, image, entry, &[start].into_iter().collect()).0);
+        published = each.max().unwrap_or(0);
+    }
+    match fault.0.as_str() {
+        "zero-is-none" => times.retain(|_, &mut time| time > 0),
+        "last-offset-lost" => times.retain(|&offset, _| offset + 1 != image.period()),
+        "times-32-bit" => times.values_mut().for_each(|time| *time %= 1 << 32),
+        "greatest-wait" => {
+            let longest = times.values().copied().max().unwrap_or(0);
+            times = (0..image.period()).map(|offset| (offset, longest)).collect();
+        }
+        _ => {}
+    }
+    let mut tight = times.values().copied().max().unwrap_or(0);
+    match fault.0.as_str() {
+        "tight-as-published" => published = tight,
+        "published-as-tight" => tight = published,
+        _ => {}
+    }
+    let exits = match fault.0.as_str() {
+        "exits-in-a-byte" => times.len() % 256,
+        "exits-made-up" => image.period() as usize,
+        _ => times.len(),
+    };
+    let mut lines: Vec<String> = times.iter().map(|(offset, time)| format!("{offset} {time}\n")).collect();
+    match fault.0.as_str() {
+        "exits-descending" => lines.reverse(),
+        "zero-lines" => {
+            lines = (0..image.period()).map(|o| format!("{o} {}\n", times.get(&o).copied().unwrap_or(0))).collect();
+        }
+        _ => {}
+    }
+    format!("tight {tight}\npublished {published}\nexits {exits}\n{}", lines.concat())
+}

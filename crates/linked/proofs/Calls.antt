@@ -1,0 +1,99 @@
+-- What each return of the two calls leaves is what the definitions say.
+use borrow.Author.Tests.{lt-ltb, le-ltb}
+use mathlib.Core.Path.{_≡_, refl, sym, _∙_, ap}
+use mathlib.Core.Bool.{Bool, cond}
+use mathlib.Core.List.{List, [], _∷_}
+use lib.ListN.{length, drop, set}
+use native.Mathlib.Omega.{arith}
+use Prim.Native.Nat.{ℕ, _*_, _≤_, _<_}
+use Rattle.runs.specs.Slots.{equal}
+use Rattle.image.specs.Judged.{Outcome, judged, outcomeOf, outcome, numberOf}
+use Rattle.image.specs.Promise.{Judging}
+use Rattle.image.specs.declared.Refusal.{Refusal}
+use Rattle.image.specs.declared.Task.{Task}
+use Rattle.image.specs.declared.Verdict.{Verdict}
+use Rattle.image.specs.declared.Verdict.the-variants.{Accepted, Refused}
+use Rattle.figures.specs.declared.Totals.{Totals}
+use Rattle.figures.specs.declared.Answer.{Answer}
+use Rattle.figures.specs.declared.Answer.the-variants.{Given, Refused as NotGiven}
+use Rattle.figures.specs.Answers.{Result, resultOf, answer, tableAfter}
+use Rattle.figures.specs.Promise.{Equal, Demand3}
+use Rattle.linked.specs.Linked.{judgedInto, judgeCall, figuresInto, figuresCall, WholeFigures}
+
+-- ---- the first places of a slice
+
+pub put-two : (s : List ℕ) (a b : ℕ) → 2 ≤ length s → set (set s 0 a) 1 b ≡ a ∷ b ∷ drop 2 s
+put-two [] a b h = absurd (omega arith)
+put-two (x ∷ []) a b h = absurd (omega arith)
+put-two (x ∷ y ∷ s) a b h = refl
+
+pub put-third : (s : List ℕ) (a b c : ℕ) → 3 ≤ length s → set (a ∷ b ∷ drop 2 s) 2 c ≡ a ∷ b ∷ c ∷ drop 3 s
+put-third [] a b c h = absurd (omega arith)
+put-third (x ∷ []) a b c h = absurd (omega arith)
+put-third (x ∷ y ∷ []) a b c h = absurd (omega arith)
+put-third (x ∷ y ∷ z ∷ s) a b c h = refl
+
+-- ---- judging
+
+module _ (s lent : List ℕ) where
+  pub judge-short : length lent < 2 → judgeCall s lent ≡ (2, lent)
+  unfolding judgeCall
+  judge-short h = ap (λ (t : Bool). cond t (2, lent) (judgedInto (outcome s) lent)) (lt-ltb (length lent) 2 h)
+
+  module _ (long : 2 ≤ length lent) (v : Verdict) (places : List ℕ) (j : Judging s v places) where
+    judge-is : judgeCall s lent ≡ judgedInto (outcomeOf s v) lent
+    unfolding judgeCall
+    judge-is =
+        ap (λ (t : Bool). cond t (2, lent) (judgedInto (outcome s) lent)) (le-ltb (length lent) 2 long)
+        ∙ ap (λ (o : Outcome). judgedInto o lent) (sym (j .numbered))
+
+    pub judge-accepted : (k : Task) (period : ℕ) (after : List ℕ) → v ≡ Accepted k → period ≡ k .bus .cores * k .bus .slot
+        → after ≡ 0 ∷ period ∷ drop 2 lent → judgeCall s lent ≡ (0, after)
+    unfolding equal
+    judge-accepted k period after e p h =
+        judge-is ∙ ap (λ (x : Verdict). judgedInto (outcomeOf s x) lent) e
+        ∙ ap (λ (n : ℕ). (0, 0 ∷ n ∷ drop 2 lent)) (sym p) ∙ ap (λ (l : List ℕ). (0, l)) (sym h)
+
+    pub judge-refused : (r : Refusal) (n place : ℕ) (after : List ℕ) → v ≡ Refused r place → n ≡ numberOf r
+        → after ≡ n ∷ place ∷ drop 2 lent → judgeCall s lent ≡ (1, after)
+    judge-refused r n place after e p h =
+        judge-is ∙ ap (λ (x : Verdict). judgedInto (outcomeOf s x) lent) e
+        ∙ ap (λ (m : ℕ). (1, m ∷ place ∷ drop 2 lent)) (sym p) ∙ ap (λ (l : List ℕ). (1, l)) (sym h)
+
+-- ---- the figures
+
+module _ (s table lent : List ℕ) where
+  pub figures-short : length lent < 3 → figuresCall s table lent ≡ (2, table, lent)
+  unfolding figuresCall
+  figures-short h =
+      ap (λ (t : Bool). cond t (2, table, lent) (figuresInto (answer s table) (tableAfter s table) lent)) (lt-ltb (length lent) 3 h)
+
+  module _ (long : 3 ≤ length lent) (a : Answer) (filled : List ℕ) (e : Equal s table a filled) where
+    figures-is : figuresCall s table lent ≡ figuresInto (resultOf a) filled lent
+    unfolding figuresCall
+    figures-is =
+        ap (λ (t : Bool). cond t (2, table, lent) (figuresInto (answer s table) (tableAfter s table) lent)) (le-ltb (length lent) 3 long)
+        ∙ ap (λ (r : Result). figuresInto r (tableAfter s table) lent) (sym (e .result))
+        ∙ ap (λ (l : List ℕ). figuresInto (resultOf a) l lent) (sym (e .table))
+
+    pub figures-given : (f : Totals) (after : List ℕ) → a ≡ Given f → after ≡ f .tight ∷ f .published ∷ drop 2 lent
+        → figuresCall s table lent ≡ (0, filled, set after 2 (f .exits))
+    figures-given f after g h =
+        figures-is ∙ ap (λ (x : Answer). figuresInto (resultOf x) filled lent) g
+        ∙ ap (λ (l : List ℕ). (0, filled, l)) (sym (put-third lent (f .tight) (f .published) (f .exits) long))
+        ∙ ap (λ (l : List ℕ). (0, filled, set l 2 (f .exits))) (sym h)
+
+    pub figures-refused : (r : Refusal) (n place : ℕ) (after : List ℕ) → a ≡ NotGiven r place → n ≡ numberOf r
+        → after ≡ n ∷ place ∷ drop 2 lent → figuresCall s table lent ≡ (1, filled, after)
+    figures-refused r n place after g p h =
+        figures-is ∙ ap (λ (x : Answer). figuresInto (resultOf x) filled lent) g
+        ∙ ap (λ (m : ℕ). (1, filled, m ∷ place ∷ drop 2 lent)) (sym p) ∙ ap (λ (l : List ℕ). (1, filled, l)) (sym h)
+
+-- ---- demand 3
+
+pub no-figures : (s table found : List ℕ) (status : ℕ) → 1 ≤ status → WholeFigures s status table found
+no-figures s table found status h k e z = absurd (omega arith)
+
+pub given-runs : (s table lent : List ℕ) (a : Answer) (f : Totals) (after : List ℕ) → Demand3 s a table → a ≡ Given f
+    → 3 ≤ length lent → after ≡ f .tight ∷ f .published ∷ drop 2 lent → WholeFigures s 0 table (set after 2 (f .exits))
+given-runs s table lent a f after d g long h k e z = rw (h, put-third lent (f .tight) (f .published) (f .exits) long) (d k f e g)

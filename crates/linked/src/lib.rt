@@ -1,0 +1,81 @@
+// linked: the two functions that C and Rust programs link (include/slotfigures.h, wrapper/), over plain numbers and lent slices.
+//
+// Both ask nothing of their caller and promise that the status and each lent slice at exit equal definitions over the image's bytes
+// and the slices at entry, for accepted and refused images alike (specs/Linked.antt):
+//   slotfigures_judge     `judgeCall`; wrong answers that it rules out: the place before the number, status 0 for a refused image
+//   slotfigures_figures   `figuresCall`; ruled out: the published figure in the tight one's place, a short answer that is written to
+// The numbers are those of `image::judge` and `figures::figures`, whose promises hold of them; `WholeFigures` repeats demand 3 of the
+// places that the caller reads.
+ghost use mathlib.Core.Path.{_≡_};
+ghost use mathlib.Core.List.{_∷_};
+ghost use Prim.Native.Nat.{_≤_};
+ghost use lib.ListN.{length, drop};
+ghost use Rattle.linked.specs.Linked.{judgeCall, figuresCall, WholeFigures};
+use figures::Answer;
+use image::Verdict;
+
+// Status: accepted, or the figures are given.
+const DONE: u64 = 0;
+
+// Status: refused.
+const REFUSED: u64 = 1;
+
+// Status: the answer has too few places.
+const SHORT: u64 = 2;
+
+// The first two places of an answer; later ones keep their contents.
+fn put(answer: &mut [u64], first: u64, second: u64)
+    requires { ⌜ 2 ≤ length (now answer) ⌝ }
+    ensures { λ _. ⌜ now (answer .exit) ≡ first ∷ second ∷ drop 2 (now (answer .entry)) ⌝ }
+{
+    answer[0] = first;
+    answer[1] = second;
+}
+
+// Judges an image. The answer takes 0 and the period, the number of places that a table for it needs, or a refusal's number and place.
+#[no_mangle]
+pub extern "C" fn slotfigures_judge(image: &[u8], answer: &mut [u64]) -> u64
+    ensures { λ r. ⌜ judgeCall (now (image .entry)) (now (answer .entry)) ≡ (r, now (answer .exit)) ⌝ }
+{
+    if answer.len() < 2 {
+        return SHORT;
+    }
+    let judged = image::judge(image);
+    let verdict = judged.verdict;
+    match verdict {
+        Verdict::Accepted(k) => {
+            let period = bus::period(k.bus);
+            put(answer, 0, period as u64);
+            DONE
+        }
+        Verdict::Refused(r, place) => {
+            let number = image::number(r);
+            put(answer, number as u64, place as u64);
+            REFUSED
+        }
+    }
+}
+
+// Both figures, the exit count and the table of an image. The answer takes them, or a refusal's number and place.
+#[no_mangle]
+pub extern "C" fn slotfigures_figures(image: &[u8], table: &mut [u64], answer: &mut [u64]) -> u64
+    ensures equality { λ r. ⌜ figuresCall (now (image .entry)) (now (table .entry)) (now (answer .entry)) ≡ (r, now (table .exit), now (answer .exit)) ⌝ }
+    ensures demand3 { λ r. ⌜ WholeFigures (now (image .entry)) r (now (table .exit)) (now (answer .exit)) ⌝ }
+{
+    if answer.len() < 3 {
+        return SHORT;
+    }
+    let found = figures::figures(image, table);
+    match found {
+        Answer::Given(f) => {
+            put(answer, f.tight, f.published);
+            answer[2] = f.exits;
+            DONE
+        }
+        Answer::Refused(r, at) => {
+            let number = image::number(r);
+            put(answer, number as u64, at as u64);
+            REFUSED
+        }
+    }
+}

@@ -1,0 +1,168 @@
+// The safe wrapper on the cases of cases.txt, from standard input: for each, tables of 0 to period + 3 places (13 for a refused image), filled
+// before the call and compared after it; and the stack that the header promises to be enough.
+// Writes 'ok NAME' or 'wrong NAME: ..' for each.
+use slotfigures::{figures, judge, period, Figures, Refusal, NO_TIME};
+use std::io::Read;
+
+// The table's words, by number.
+const WORDS: [&str; 11] = [
+    "",
+    "cut",
+    "tag",
+    "full",
+    "length",
+    "value",
+    "forward",
+    "unfinished",
+    "deep",
+    "long",
+    "table",
+];
+
+enum Expected {
+    Given {
+        period: usize,
+        figures: Figures,
+        times: Vec<u64>,
+    },
+    Refused(Refusal),
+}
+
+fn refusal(number: u64, place: u64) -> Refusal {
+    Refusal {
+        number,
+        word: WORDS[number as usize],
+        place,
+    }
+}
+
+fn read_image(text: &str) -> Vec<u8> {
+    let digits: Vec<u32> = text
+        .chars()
+        .filter(|c| *c != ' ')
+        .map(|c| c.to_digit(16).expect("a digit"))
+        .collect();
+    digits.chunks(2).map(|d| (d[0] * 16 + d[1]) as u8).collect()
+}
+
+fn read_expected(text: &str) -> Expected {
+    let number = |s: &str| s.parse::<u64>().expect("a number");
+    let items: Vec<&str> = text.split_whitespace().collect();
+    match items[0] {
+        "refused" => Expected::Refused(refusal(number(items[1]), number(items[2]))),
+        "given" => {
+            let period = number(items[1]) as usize;
+            let mut times = vec![NO_TIME; period];
+            for item in &items[5..] {
+                let (offset, time) = item.split_once(':').expect("OFFSET:TIME");
+                times[number(offset) as usize] = number(time);
+            }
+            let figures = Figures {
+                tight: number(items[2]),
+                published: number(items[3]),
+                exits: number(items[4]),
+            };
+            Expected::Given {
+                period,
+                figures,
+                times,
+            }
+        }
+        other => panic!("neither given nor refused: {other}"),
+    }
+}
+
+// What is wrong with a case, if anything.
+fn wrong(image: &[u8], expected: &Expected) -> Option<String> {
+    let (accepted, most) = match expected {
+        Expected::Given { period, .. } => (Ok(*period), period + 3),
+        Expected::Refused(r) => (Err(*r), 13),
+    };
+    if period(image) != accepted || judge(image) != accepted.map(|_| ()) {
+        return Some("judge".to_string());
+    }
+    for places in 0..=most {
+        let before: Vec<u64> = (0..places as u64)
+            .map(|i| 0xa5a5_0000_0000_0000 + i)
+            .collect();
+        let mut after = before.clone();
+        let answer = match expected {
+            Expected::Refused(r) => Err(*r),
+            Expected::Given { period, .. } if places < *period => {
+                Err(refusal(10, image.len() as u64))
+            }
+            Expected::Given {
+                period,
+                figures,
+                times,
+            } => {
+                after[..*period].copy_from_slice(times);
+                Ok(*figures)
+            }
+        };
+        let mut table = before;
+        if figures(image, &mut table) != answer || table != after {
+            return Some(format!("figures, table of {places}"));
+        }
+    }
+    None
+}
+
+// Calls as deep as they come: depth 24, all loops, with the most halvings of counts that 100,000 visits permit.
+fn deepest() -> Vec<u8> {
+    let mut image = read_image("010003020500 02000104 040003020202");
+    for node in 0..23u8 {
+        let count = if node < 7 { 5 } else { 1 };
+        image.extend([7, 0, 6, 0, count, 0, count, 0, node]);
+    }
+    image
+}
+
+// A2 from 4 takes 8 and ends at 2, from 2 it takes 2 and ends at 4: 78,125 in turn, 8 first and last, end at 2.
+fn within_the_stack() -> bool {
+    let call = || {
+        let mut table = [NO_TIME; 10];
+        let time = 39_063 * 8 + 39_062 * 2;
+        figures(&deepest(), &mut table)
+            == Ok(Figures {
+                tight: time,
+                published: time,
+                exits: 1,
+            })
+            && table[2] == time
+    };
+    let thread = std::thread::Builder::new().stack_size(4 << 20).spawn(call);
+    thread.expect("a thread").join().expect("no panic")
+}
+
+fn main() {
+    let mut text = String::new();
+    std::io::stdin()
+        .read_to_string(&mut text)
+        .expect("standard input");
+    let mut failed = false;
+    let mut tell = |name: &str, wrong: Option<String>| match wrong {
+        None => println!("ok {name}"),
+        Some(what) => {
+            failed = true;
+            println!("wrong {name}: {what}");
+        }
+    };
+    for line in text
+        .lines()
+        .filter(|l| !l.is_empty() && !l.starts_with('#'))
+    {
+        let parts: Vec<&str> = line.split(';').collect();
+        tell(
+            parts[0],
+            wrong(&read_image(parts[1]), &read_expected(parts[2])),
+        );
+    }
+    let stack = if within_the_stack() {
+        None
+    } else {
+        Some("other figures".to_string())
+    };
+    tell("the deepest calls in 4 MiB of stack", stack);
+    std::process::exit(failed as i32);
+}
