@@ -1,7 +1,7 @@
 -- Numbers as times, and arrays as tables: a table is read place by place, and two tables with the same entries are the same.
 use mathlib.Core.Path.{_≡_, refl, sym, _∙_, ap, ap₂, subst}
 use mathlib.Core.Option.{none, some}
-use mathlib.Core.List.{List, _∷_}
+use mathlib.Core.List.{List}
 use lib.ListN.{getD}
 use borrow.Author.Tests.{eq-eqb, ne-eqb}
 use native.Mathlib.Omega.{arith}
@@ -12,7 +12,7 @@ use Rattle.runs.specs.Figures.{Time, later, longer, longestOf}
 use Rattle.runs.proofs.Cases.{split}
 use Rattle.runs.proofs.Joins.{row-same}
 use Rattle.runs.proofs.Meanings.{row-at}
-use Rattle.times.specs.Arrays.{noTime, timeOf, tableOf, Fits, LongerOf, LaterOf, Joined, shifted, Shifted}
+use Rattle.times.specs.Arrays.{noTime, timeOf, tableOf, Fits, LongerOf, LaterOf, Joined}
 
 pub time-none : (n : ℕ) → n ≡ noTime → timeOf n ≡ none
 unfolding timeOf
@@ -97,13 +97,3 @@ pub longest-more : (P : ℕ) (t : List ℕ) (o x r : ℕ) → o < P → timeOf x
     → timeOf r ≡ longestOf (suc o) (tableOf P t)
 unfolding longestOf joinBelow LongerOf
 longest-more P t o x r l h e = e ∙ ap₂ longer h (sym (tableOf-at P t o l))
-
-pub shifted-row : (q n : ℕ) (f : ℕ → Time) → shifted q (row n f) ≡ row n (λ i. later q (f i))
-unfolding shifted row
-shifted-row q zero f = refl
-shifted-row q (suc n) f = ap (λ (T : List Time). later q (f zero) ∷ T) (shifted-row q n (λ i. f (suc i)))
-
-pub shifted-all : (P : ℕ) (a : List ℕ) (q : ℕ) (b : List ℕ) → ((o : ℕ) → o < P → LaterOf (getD a o 0) q (getD b o 0)) → Shifted P a q b
-unfolding tableOf LaterOf
-shifted-all P a q b h =
-    row-same P (λ o. timeOf (getD b o 0)) (λ o. later q (timeOf (getD a o 0))) h ∙ sym (shifted-row q P (λ o. timeOf (getD a o 0)))

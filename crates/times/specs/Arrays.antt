@@ -1,7 +1,7 @@
 -- The program's arrays as tables of times (document 01, "Both figures"), and what the public functions ask and promise. Definitions only.
 use mathlib.Core.Path.{_≡_}
 use mathlib.Core.Option.{none, some}
-use mathlib.Core.List.{List, [], _∷_}
+use mathlib.Core.List.{List}
 use mathlib.Core.Bool.{cond}
 use lib.ListN.{getD}
 use lib.Dec.{eqb}
@@ -73,13 +73,3 @@ LaterOf t d r = timeOf r ≡ later d (timeOf t)
 -- at every place r has the longer time of a and b
 abbrev pub Joined : List ℕ → List ℕ → List ℕ → Type 0
 Joined a b r = (P : ℕ) → P ≤ 256 → tableOf P r ≡ row P (λ o. longer (getD (tableOf P a) o none) (getD (tableOf P b) o none))
-
--- every time of T, q cycles later
-unfoldable pub shifted : ℕ → List Time → List Time
-unfolding later
-shifted q [] = []
-shifted q (v ∷ T) = later q v ∷ shifted q T
-
--- r's table is t's, q cycles later at every time
-abbrev pub Shifted : ℕ → List ℕ → ℕ → List ℕ → Type 0
-Shifted P t q r = tableOf P r ≡ shifted q (tableOf P t)

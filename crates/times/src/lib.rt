@@ -5,20 +5,18 @@
 //   plain_step, may_step, always_step   the table of the result is the definition's `times` of that block (`Stepped`)
 //   join                                place by place the longer time (`Joined`)
 //   longest                             the longest time of a table (`longestOf`)
-//   is_later, all_later                 a table with n cycles more at every time (`Shifted`)
 // Definitions: `times`, `longestOf` in crates/runs/specs/Figures.antt; what an array means (`tableOf`), what a step asks (`PlainReady`,
 // `BusReady`) and the promises in specs/Arrays.antt; those of the inner functions in specs/Windows.antt and specs/Accesses.antt.
 //
 // A step takes about P steps of work, whatever its durations: a block's durations are a window over the entries (`two_pass`), and all entries
 // that wait for the slot start at its first offset (`leave`).
 ghost use mathlib.Core.Path.{_≡_};
-ghost use mathlib.Core.Bool.{true};
 ghost use lib.ListN.{length};
 ghost use Prim.Native.Nat.{ℕ, _+_, _-_, _<_, _≤_, _%_, max, min};
 ghost use Rattle.runs.specs.Nodes.{may, always, Tree};
 ghost use Rattle.runs.specs.Figures.{longestOf};
 ghost use Rattle.bus.specs.Waits.{Ranges};
-ghost use Rattle.times.specs.Arrays.{noTime, timeOf, tableOf, Fits, Stepped, PlainReady, BusReady, Passed, LongerOf, LaterOf, Joined, Shifted};
+ghost use Rattle.times.specs.Arrays.{noTime, timeOf, tableOf, Fits, Stepped, PlainReady, BusReady, Passed, LongerOf, LaterOf, Joined};
 ghost use Rattle.times.specs.Windows.{Windowed, Suffixes, Prefixes, keyOf, Keyed, timeAt, Unkeyed, Turns, Room, SlotKeyed, SlotTimed, SlotRoom};
 ghost use Rattle.times.specs.Accesses.{Reach, Left};
 
@@ -85,54 +83,6 @@ pub fn longest(t: [u64; 256], period: usize) -> u64
         o += 1;
     }
     best
-}
-
-// ---- a table with more cycles at every time
-
-// Is b the table a, q cycles later at every time? Any q may be tried: a guess needs no proof.
-pub fn is_later(a: [u64; 256], b: [u64; 256], period: usize, q: usize) -> bool
-    requires { ⌜ period ≤ 256 ⌝ }
-    ensures { λ r. ⌜ (r ≡ true → Shifted period a q b) ⌝ }
-{
-    let mut o = 0;
-    while o < period {
-        let same = same_by(a[o], b[o], q);
-        if !same {
-            return false;
-        }
-        o += 1;
-    }
-    true
-}
-
-// The table a, n cycles later at every time.
-pub fn all_later(a: [u64; 256], period: usize, n: usize) -> [u64; 256]
-    requires { ⌜ (period ≤ 256) × (n ≤ 0x1000_0000_0000_0000) × Fits period a ⌝ }
-    ensures { λ r. ⌜ Shifted period a n r ⌝ }
-{
-    let mut out = [0xffff_ffff_ffff_ffffu64; 256];
-    let mut o = 0;
-    while o < period {
-        out[o] = later_by(a[o], n);
-        o += 1;
-    }
-    out
-}
-
-// Is y the time x, q cycles later?
-fn same_by(x: u64, y: u64, q: usize) -> bool
-    ensures { λ r. ⌜ (r ≡ true → LaterOf x q y) ⌝ }
-{
-    if x == 0xffff_ffff_ffff_ffff {
-        return y == 0xffff_ffff_ffff_ffff;
-    }
-    if y == 0xffff_ffff_ffff_ffff {
-        return false;
-    }
-    if y < x {
-        return false;
-    }
-    y - x == q as u64
 }
 
 // ---- single times
