@@ -3,7 +3,7 @@ use mathlib.Core.Path.{_≡_, refl, sym, _∙_, ap}
 use mathlib.Core.Bool.{Bool, true, false, cond}
 use mathlib.Core.Option.{none, some}
 use mathlib.Core.List.{List}
-use lib.ListN.{getD}
+use lib.ListN.{length, getD}
 use native.Mathlib.Omega.{arith}
 use native.Mathlib.Nat.{le-refl, mul-le-mul-left}
 use Prim.Native.Nat.{ℕ, _+_, _*_, _≤_, _<_}
@@ -40,10 +40,11 @@ module _ (s : List ℕ) (k : Task) (places : List ℕ) (w : Answerable s k place
       go true p = cc
       go false p = let z : _≡_ {A = ℕ} 0 1 = cc in omega arith
 
-  pub start-ready : (t : List ℕ) → Started s (k .bus) t → Ready s k places (k .entry) t
-  start-ready t e = record {
+  pub start-ready : (t : List ℕ) → length t ≡ 256 → Started s (k .bus) t → Ready s k places (k .entry) t
+  start-ready t size e = record {
     walkable = w .walkable;
     low = le-refl (k .entry);
+    size = size;
     room = record {
       most = omega (arith, mul-le-mul-left 65535 few);
       grows = λ o c l h. omega (arith, zero-at t e o c l h, mul-le-mul-left 65535 few);

@@ -36,7 +36,7 @@ pub enum Answer {
 // The time 0 at each of the n listed starts.
 fn start_times(image: &[u8], b: Bus, n: usize) -> [u64; 256]
     requires { ⌜ Listing (now image) b n ⌝ }
-    ensures { λ r. ⌜ Started (now (image .entry)) b r ⌝ }
+    ensures { λ r. ⌜ (length r ≡ 256) × Started (now (image .entry)) b r ⌝ }
 {
     let mut out = [18446744073709551615u64; 256];
     let mut i = 0;
@@ -68,8 +68,9 @@ fn exit_times(image: &[u8], places: &[usize; 256], k: Task) -> [u64; 256]
     requires { ⌜ Answerable (now image) k (now places) ⌝ }
     ensures { λ r. ⌜ Ended (now (image .entry)) k r ⌝ }
 {
-    let start = start_times(image, k.bus, k.starts);
-    tight::walk(image, places, k, k.entry, start)
+    let mut t = start_times(image, k.bus, k.starts);
+    tight::walk(image, places, k, k.entry, &mut t);
+    t
 }
 
 // The published figure.

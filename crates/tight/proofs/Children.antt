@@ -2,7 +2,7 @@
 use mathlib.Core.Path.{_≡_, refl, sym, _∙_, ap}
 use mathlib.Core.Option.{none, some}
 use mathlib.Core.List.{List}
-use lib.ListN.{getD}
+use lib.ListN.{length, getD}
 use native.Mathlib.Omega.{arith}
 use native.Mathlib.Nat.{mul-le-mul-left}
 use Prim.Native.Nat.{ℕ, _+_, _-_, _*_, _≤_, _<_}
@@ -34,10 +34,11 @@ module _ (s : List ℕ) (k : Task) (places : List ℕ) (w : Walkable s k places)
   visits-split : ahead i ≡ 65535 * visits (treeAt s child) + ahead (i + 1)
   visits-split = rw is (let e = visits-step s p n i h in omega (arith, ap (λ (m : ℕ). 65535 * m) e))
 
-  pub child-ready : (t : List ℕ) → Roomy (k .bus) (ahead i) (table (k .bus) t) → Ready s k places child t
-  child-ready t r = record {
+  pub child-ready : (t : List ℕ) → length t ≡ 256 → Roomy (k .bus) (ahead i) (table (k .bus) t) → Ready s k places child t
+  child-ready t size r = record {
     walkable = w;
     low = omega (arith, child-low);
+    size = size;
     room = room-less (k .bus) _ (ahead i) _ (omega (arith, visits-split)) r;
   }
 

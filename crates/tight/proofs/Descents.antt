@@ -21,10 +21,9 @@ use Rattle.image.specs.declared.nodes.Children.{Children}
 use Rattle.image.specs.declared.nodes.Loop.{Loop as LoopNumbers}
 use Rattle.image.proofs.Walks.{valid-at, node-place, as-plain, as-block, as-sequence, as-branch, as-loop as loop-node}
 use Rattle.times.specs.Arrays.{tableOf, Stepped, PlainReady, BusReady}
-use Rattle.tight.specs.declared.Pass.{Pass}
-use Rattle.tight.specs.Steps.{table, after, afterAll, Roomy, Ready, ReadyAll, ReadyLoop, UnrolledAt, BegunAt, Branched}
-use Rattle.tight.proofs.Rooms.{room-less, room-fits, room-times}
-use Rattle.tight.proofs.Parts.{as-all, as-any, as-loop}
+use Rattle.tight.specs.Steps.{table, afterAll, Walked, Ready, ReadyAll, ReadyRepeat, Branched}
+use Rattle.tight.proofs.Rooms.{room-less, room-fits}
+use Rattle.tight.proofs.Parts.{as-all, as-any}
 
 module _ (s : List ℕ) (k : Task) (places : List ℕ) (node : ℕ) (t : List ℕ) (r : Ready s k places node t) where
   pub in-image : getD places node 0 ≤ length s
@@ -46,7 +45,7 @@ module _ (s : List ℕ) (k : Task) (places : List ℕ) (node : ℕ) (t : List �
           fits = room-fits (k .bus) _ t (r .room);
         }
 
-    pub plain-done : (q : List ℕ) → Stepped (k .bus) (Tree.plain (p .lowest) (p .highest)) t q → Stepped (k .bus) (treeAt s node) t q
+    pub plain-done : (q : List ℕ) → Walked (k .bus) (Tree.plain (p .lowest) (p .highest)) t q → Walked (k .bus) (treeAt s node) t q
     plain-done q h = rw (as-plain s k places (r .walkable) node (r .low) p e .0) h
 
   -- bus blocks
@@ -62,7 +61,7 @@ module _ (s : List ℕ) (k : Task) (places : List ℕ) (node : ℕ) (t : List �
           fits = room-fits (k .bus) _ t (r .room);
         }
 
-    pub block-done : (q : List ℕ) → Stepped (k .bus) (Tree.bus (kindMeant (x .kind)) (x .lowest) (x .highest)) t q → Stepped (k .bus) (treeAt s node) t q
+    pub block-done : (q : List ℕ) → Walked (k .bus) (Tree.bus (kindMeant (x .kind)) (x .lowest) (x .highest)) t q → Walked (k .bus) (treeAt s node) t q
     block-done q h = rw (as-block s k places (r .walkable) node (r .low) x e .0) h
 
   -- sequences
@@ -75,12 +74,13 @@ module _ (s : List ℕ) (k : Task) (places : List ℕ) (node : ℕ) (t : List �
           walkable = r .walkable;
           low = r .low;
           named = h .1;
+          size = r .size;
           room = room-less (k .bus) _ _ (table (k .bus) t) (omega arith) (rw (h .0) at (r .room));
         }
 
-    pub sequence-done : (q : List ℕ) → table (k .bus) q ≡ afterAll (k .bus) (childTrees s (c .place) (c .count)) (table (k .bus) t)
-        → Stepped (k .bus) (treeAt s node) t q
-    sequence-done q h = as-all (k .bus) (treeAt s node) t _ q (as-sequence s k places (r .walkable) node (r .low) c e .0) h
+    pub sequence-done : (q : List ℕ) → length q ≡ 256 → table (k .bus) q ≡ afterAll (k .bus) (childTrees s (c .place) (c .count)) (table (k .bus) t)
+        → Walked (k .bus) (treeAt s node) t q
+    sequence-done q size h = record { size = size; steps = as-all (k .bus) (treeAt s node) t _ q (as-sequence s k places (r .walkable) node (r .low) c e .0) h }
 
   -- branches
   module _ (c : Children) (e : nodeOf s (getD places node 0) ≡ Branch c) where
@@ -92,64 +92,27 @@ module _ (s : List ℕ) (k : Task) (places : List ℕ) (node : ℕ) (t : List �
           walkable = r .walkable;
           low = r .low;
           named = h .1;
+          size = r .size;
           room = room-less (k .bus) _ _ (table (k .bus) t) (omega arith) (rw (h .0) at (r .room));
         }
 
-    pub branch-done : (q : List ℕ) → Branched (k .bus) (childTrees s (c .place) (c .count)) t q → Stepped (k .bus) (treeAt s node) t q
-    branch-done q h = as-any (k .bus) (treeAt s node) t _ q (as-branch s k places (r .walkable) node (r .low) c e .0) h
+    pub branch-done : (q : List ℕ) → length q ≡ 256 → Branched (k .bus) (childTrees s (c .place) (c .count)) t q → Walked (k .bus) (treeAt s node) t q
+    branch-done q size h = record { size = size; steps = as-any (k .bus) (treeAt s node) t _ q (as-branch s k places (r .walkable) node (r .low) c e .0) h }
 
   -- loops
-  module _ (l : LoopNumbers) (e : nodeOf s (getD places node 0) ≡ Loop l) (first : Pass) (g : BegunAt (k .bus) (l .least) t first) where
-    pub body-low : (l .body < node) × (l .greatest ≤ 10000)
-    body-low = let h = loop-node s k places (r .walkable) node (r .low) l e in (h .1, h .3)
-
-    pub loop-ready : ReadyLoop s k places (l .body) 0 (l .greatest) first
+  module _ (l : LoopNumbers) (e : nodeOf s (getD places node 0) ≡ Loop l) where
+    pub repeat-ready : ReadyRepeat s k places node l t
     unfolding visits
-    loop-ready =
+    repeat-ready =
         let h = loop-node s k places (r .walkable) node (r .low) l e in
         record {
           walkable = r .walkable;
-          low = omega (arith, h .1, r .low);
-          few = omega (arith, h .3);
-          room = rw (g .cur) (room-less (k .bus) _ _ (table (k .bus) t) (omega arith) (rw (h .0) at (r .room)));
+          low = r .low;
+          below = h .1;
+          few = h .3;
+          size = r .size;
+          room = room-less (k .bus) _ _ (table (k .bus) t) (omega arith) (rw (h .0) at (r .room));
         }
 
-    pub loop-done : (q : Pass) → UnrolledAt (k .bus) (treeAt s (l .body)) (l .least) 0 (l .greatest) first q → Stepped (k .bus) (treeAt s node) t (q .out)
-    loop-done q u =
-        as-loop (k .bus) (treeAt s node) t (treeAt s (l .body)) (l .least) (l .greatest) first q
-        (loop-node s k places (r .walkable) node (r .low) l e .0) g u
-
--- ---- inside a loop
-
-module _ (s : List ℕ) (k : Task) (places : List ℕ) (body done left : ℕ) (p : Pass) (r : ReadyLoop s k places body done left p) where
-  pub one-ready : left ≡ 1 → Ready s k places body (p .cur)
-  one-ready e = record {
-    walkable = r .walkable;
-    low = r .low;
-    room = room-less (k .bus) _ _ (table (k .bus) (p .cur)) (omega arith) (rw e at (r .room));
-  }
-
-  pub half-ready : (h : ℕ) → h ≤ left → ReadyLoop s k places body done h p
-  half-ready h l = record {
-    walkable = r .walkable;
-    low = r .low;
-    few = omega (arith, r .few);
-    room = room-less (k .bus) _ _ (table (k .bus) (p .cur)) (mul-le-mul-left 65535 (mul-le-mul-right (visits (treeAt s body)) l)) (r .room);
-  }
-
-  pub other-ready : (least h : ℕ) → h ≤ left → (a : Pass) → UnrolledAt (k .bus) (treeAt s body) least done h p a → ReadyLoop s k places body (done + h) (left - h) a
-  other-ready least h l a u = record {
-    walkable = r .walkable;
-    low = r .low;
-    few = omega (arith, r .few);
-    room =
-        rw (u .cur)
-        (room-times s k places (r .walkable) (treeAt s body) (valid-at s k places (r .walkable) body (r .low)) h _ (table (k .bus) (p .cur))
-        (room-less (k .bus) _ _ (table (k .bus) (p .cur)) split (r .room)));
-  }
-    where
-      split : 65535 * (h * visits (treeAt s body)) + 65535 * ((left - h) * visits (treeAt s body)) ≤ 65535 * (left * visits (treeAt s body))
-      split =
-          let e : h + (left - h) ≡ left = omega arith in
-          let f : (h + (left - h)) * visits (treeAt s body) ≡ h * visits (treeAt s body) + (left - h) * visits (treeAt s body) = add-mul h (left - h) (visits (treeAt s body)) in
-          omega (arith, f, ap (λ (n : ℕ). n * visits (treeAt s body)) e)
+    pub repeat-done : (q : List ℕ) → Walked (k .bus) (Tree.loop (l .least) (l .greatest) (treeAt s (l .body))) t q → Walked (k .bus) (treeAt s node) t q
+    repeat-done q h = rw (loop-node s k places (r .walkable) node (r .low) l e .0) h

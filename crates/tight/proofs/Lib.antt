@@ -3,3 +3,5 @@ pub mod Rooms
 pub mod Parts
 pub mod Children
 pub mod Descents
+mod Watching
+mod Loops

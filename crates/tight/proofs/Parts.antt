@@ -12,7 +12,6 @@ use Rattle.runs.proofs.Loops.{unrolled-all}
 use Rattle.bus.specs.declared.Bus.{Bus}
 use Rattle.bus.specs.Waits.{slotsOf}
 use Rattle.times.specs.Arrays.{tableOf, Stepped}
-use Rattle.tight.specs.declared.Pass.{Pass}
 use Rattle.tight.specs.Steps.{table, after, afterAll, BegunAt, UnrolledAt, Branched}
 use Rattle.tight.proofs.Tables.{table-is}
 
@@ -25,9 +24,9 @@ module _ (b : Bus) (x : Tree) (t : List ℕ) where
   unfolding carried
   as-any xs r e h = rw e (table-is b r _ h)
 
-  pub as-loop : (body : Tree) (least greatest : ℕ) (p r : Pass) → x ≡ Tree.loop least greatest body → BegunAt b least t p
-      → UnrolledAt b body least 0 greatest p r → Stepped b x t (r .out)
+  pub as-loop : (body : Tree) (least greatest : ℕ) (out cur' out' : List ℕ) → x ≡ Tree.loop least greatest body → BegunAt b least t out
+      → UnrolledAt b body least 0 greatest t out cur' out' → Stepped b x t out'
   unfolding carried
-  as-loop body least greatest p r e g u =
+  as-loop body least greatest out cur' out' e g u =
       rw e
-      (table-is b (r .out) _ (unrolled-all none longer longer-joins (periodOf (slotsOf b)) (after b body) least greatest (table b t) _ _ _ _ g u))
+      (table-is b out' _ (unrolled-all none longer longer-joins (periodOf (slotsOf b)) (after b body) least greatest (table b t) _ _ _ _ g u))

@@ -18,7 +18,6 @@ use Rattle.bus.specs.declared.Bus.{Bus}
 use Rattle.bus.specs.Waits.{slotsOf}
 use Rattle.times.specs.Arrays.{noTime, timeOf, tableOf, Joined}
 use Rattle.tight.specs.Steps.{table, BegunAt, TurnedAt}
-use Rattle.tight.specs.declared.Pass.{Pass}
 
 pub table-at : (b : Bus) (t : List ℕ) (o : ℕ) → o < periodOf (slotsOf b) → getD (table b t) o none ≡ timeOf (getD t o 0)
 unfolding tableOf
@@ -43,31 +42,35 @@ joined-at a b r j P small o h = ap (λ (T : List Time). getD T o none) (j P smal
 -- ---- what the unroller starts from, and one iteration
 
 module _ (b : Bus) (small : periodOf (slotsOf b) ≤ 256) where
-  pub begun-entry : (least : ℕ) (t : List ℕ) → least ≡ 0 → BegunAt b least t (record { cur = t; out = t })
-  begun-entry least t e = record {
+  pub begun-entry : (least : ℕ) (t out : List ℕ) → least ≡ 0 → Joined (replicate 256 noTime) t out → BegunAt b least t out
+  begun-entry least t out e j = record {
     cur = refl;
-    out = λ o h. ap (λ (z : Bool). cond z (getD (table b t) o none) none) (sym (le-leb least 0 (omega arith)));
+    out = λ o h.
+        joined-at (replicate 256 noTime) t out j (periodOf (slotsOf b)) small o h
+        ∙ ap (λ (z : Time). longer z (getD (table b t) o none)) (nothing-at (periodOf (slotsOf b)) small o h)
+        ∙ longer-joins .left _
+        ∙ ap (λ (z : Bool). cond z (getD (table b t) o none) none) (sym (le-leb least 0 (omega arith)));
   }
 
-  pub begun-nothing : (least : ℕ) (t : List ℕ) → 0 < least → BegunAt b least t (record { cur = t; out = replicate 256 noTime })
+  pub begun-nothing : (least : ℕ) (t : List ℕ) → 0 < least → BegunAt b least t (replicate 256 noTime)
   begun-nothing least t l = record {
     cur = refl;
     out = λ o h. nothing-at (periodOf (slotsOf b)) small o h ∙ ap (λ (z : Bool). cond z (getD (table b t) o none) none) (sym (lt-leb least 0 l));
   }
 
-  module _ (least done : ℕ) (p : Pass) (next : List ℕ) where
-    pub turned-joined : (both : List ℕ) → least ≤ done + 1 → Joined (p .out) next both → TurnedAt b least done p next (record { cur = next; out = both })
+  module _ (least done : ℕ) (out next : List ℕ) where
+    pub turned-joined : (both : List ℕ) → least ≤ done + 1 → Joined out next both → TurnedAt b least done out next both
     turned-joined both l j = record {
       cur = refl;
       out = λ o h.
-          joined-at (p .out) next both j (periodOf (slotsOf b)) small o h
-          ∙ ap (λ (z : Bool). longer (getD (table b (p .out)) o none) (cond z (getD (table b next) o none) none)) (sym (le-leb least (done + 1) l));
+          joined-at out next both j (periodOf (slotsOf b)) small o h
+          ∙ ap (λ (z : Bool). longer (getD (table b out) o none) (cond z (getD (table b next) o none) none)) (sym (le-leb least (done + 1) l));
     }
 
-    pub turned-only : done + 1 < least → TurnedAt b least done p next (record { cur = next; out = p .out })
+    pub turned-only : done + 1 < least → TurnedAt b least done out next out
     turned-only l = record {
       cur = refl;
       out = λ o h.
           sym (longer-joins .right _)
-          ∙ ap (λ (z : Bool). longer (getD (table b (p .out)) o none) (cond z (getD (table b next) o none) none)) (sym (lt-leb least (done + 1) l));
+          ∙ ap (λ (z : Bool). longer (getD (table b out) o none) (cond z (getD (table b next) o none) none)) (sym (lt-leb least (done + 1) l));
     }

@@ -2,21 +2,23 @@
 use mathlib.Core.Path.{_≡_}
 use mathlib.Core.Option.{none, some}
 use mathlib.Core.List.{List}
-use lib.ListN.{getD}
-use Prim.Native.Nat.{ℕ, _+_, _*_, _≤_, _<_}
+use lib.ListN.{length, getD}
+use Prim.Native.Nat.{ℕ, _+_, _-_, _*_, _≤_, _<_}
 use Rattle.runs.specs.Slots.{periodOf, equal}
 use Rattle.runs.specs.Clock.{offsets}
 use Rattle.runs.specs.Nodes.{Tree, Trees, visits, visitsAll}
-use Rattle.runs.specs.Carried.{carriedAll, carriedAny}
+use Rattle.runs.specs.Carried.{iterate, carriedAll, carriedAny}
 use Rattle.runs.specs.Figures.{Time, longer, later, times}
-use Rattle.runs.specs.Parts.{Begun, Turned, Unrolled}
+use Rattle.runs.specs.Parts.{Begun, Turned, Unrolled, Cyclic}
 use Rattle.bus.specs.declared.Bus.{Bus}
 use Rattle.bus.specs.Waits.{slotsOf}
 use Rattle.image.specs.Nodes.{treeAt, childTrees}
 use Rattle.image.specs.Walks.{Walkable, Named}
 use Rattle.image.specs.declared.Task.{Task}
-use Rattle.times.specs.Arrays.{tableOf}
-use Rattle.tight.specs.declared.Pass.{Pass}
+use Rattle.image.specs.declared.nodes.Loop.{Loop}
+use Rattle.times.specs.Arrays.{tableOf, Stepped, Shifted}
+use Rattle.cycles.specs.Cycles.{Jumps}
+use Rattle.tight.specs.declared.Watch.{Watch}
 
 -- an array's table on a bus; the table after a tree
 abbrev pub table : Bus → List ℕ → List Time
@@ -37,10 +39,16 @@ pub record Roomy (b : Bus) (m : ℕ) (T : List Time) : Type 0 where
   pub most : m ≤ 1152921504606846976
   pub grows : (o c : ℕ) → o < periodOf (slotsOf b) → getD T o none ≡ some c → c + m ≤ 1152921504606846976
 
+-- an array of 256 places whose table is t's after the tree
+pub record Walked (b : Bus) (x : Tree) (t r : List ℕ) : Type 0 where
+  pub size : length r ≡ 256
+  pub steps : Stepped b x t r
+
 -- the walk of a node from an array
 pub record Ready (s : List ℕ) (k : Task) (places : List ℕ) (node : ℕ) (t : List ℕ) : Type 0 where
   pub walkable : Walkable s k places
   pub low : node ≤ k .entry
+  pub size : length t ≡ 256
   pub room : Roomy (k .bus) (65535 * visits (treeAt s node)) (table (k .bus) t)
 
 -- the walk of a node's children
@@ -48,26 +56,82 @@ pub record ReadyAll (s : List ℕ) (k : Task) (places : List ℕ) (node place co
   pub walkable : Walkable s k places
   pub low : node ≤ k .entry
   pub named : Named s place count node
+  pub size : length t ≡ 256
   pub room : Roomy (k .bus) (65535 * visitsAll (childTrees s place count)) (table (k .bus) t)
 
--- `left` iterations of a loop's body, `done` being done
-pub record ReadyLoop (s : List ℕ) (k : Task) (places : List ℕ) (body done left : ℕ) (p : Pass) : Type 0 where
+-- the walk of a loop
+pub record ReadyRepeat (s : List ℕ) (k : Task) (places : List ℕ) (node : ℕ) (l : Loop) (t : List ℕ) : Type 0 where
+  pub walkable : Walkable s k places
+  pub low : node ≤ k .entry
+  pub below : l .body < node
+  pub few : l .greatest ≤ 10000
+  pub size : length t ≡ 256
+  pub room : Roomy (k .bus) (65535 * (l .greatest * visits (treeAt s (l .body)))) (table (k .bus) t)
+
+-- ---- loops
+
+-- the unroller's tables on a bus: the exits before the first iteration, those after one more, and all after n more
+abbrev pub BegunAt : Bus → ℕ → List ℕ → List ℕ → Type 0
+BegunAt b least t out = Begun none longer (periodOf (slotsOf b)) least (table b t) (table b t) (table b out)
+
+abbrev pub TurnedAt : Bus → ℕ → ℕ → List ℕ → List ℕ → List ℕ → Type 0
+TurnedAt b least done out next out' =
+    Turned none longer (periodOf (slotsOf b)) least done (table b out) (table b next) (table b next) (table b out')
+
+abbrev pub UnrolledAt : Bus → Tree → ℕ → ℕ → ℕ → List ℕ → List ℕ → List ℕ → List ℕ → Type 0
+UnrolledAt b body least done n cur out cur' out' =
+    Unrolled none longer (periodOf (slotsOf b)) (after b body) least done n (table b cur) (table b out) (table b cur') (table b out')
+
+-- what is seen of a loop is true of the table now: it is `gap` iterations behind the kept one, so long as any is kept; and a cycle that is
+-- found leads to the same times, each `gain` cycles later
+pub record Watches (b : Bus) (x : Tree) (cur old : List ℕ) (w : Watch) : Type 0 where
+  pub past : 1 ≤ w .span → table b cur ≡ iterate (after b x) (w .gap) (table b old)
+  pub cyclic : 1 ≤ w .cycle → Cyclic (after b x) (w .cycle) (w .gain) (table b cur)
+
+-- its numbers are small
+pub record Small (w : Watch) : Type 0 where
+  pub gap-most : w .gap ≤ w .done
+  pub span-most : w .span ≤ 32768
+  pub cycle-most : w .cycle ≤ w .done
+  pub gain-most : w .gain ≤ 6553500000
+
+-- one more iteration, which led to `cur`, is seen, on every bus of the period P and for every tree
+pub record WatchedBy (P : ℕ) (cur old : List ℕ) (w : Watch) (old' : List ℕ) (r : Watch) : Type 0 where
+  pub counts : r .done ≡ w .done + 1
+  pub small : Small r
+  pub off : w .span ≡ 0 → (r .span ≡ 0) × (r .cycle ≡ 0)
+  pub watches : (b : Bus) (x : Tree) → periodOf (slotsOf b) ≡ P → (before : List ℕ) → Watches b x before old w → Stepped b x before cur
+      → Watches b x cur old' r
+
+-- n whole cycles of `left` iterations are skipped, and nothing is looked for any more
+pub record SkippedBy (P left : ℕ) (w : Watch) (cur cur' : List ℕ) (r : Watch) : Type 0 where
+  pub size : length cur' ≡ 256
+  pub skips : (n : ℕ) × Jumps (w .cycle) left n × (r .done ≡ w .done + n * w .cycle) × Shifted P cur (n * w .gain) cur'
+  pub off : (r .gap ≡ 0) × (r .span ≡ 0) × (r .cycle ≡ 0) × (r .gain ≡ 0)
+
+-- `left` iterations of a loop's body are to come
+pub record ReadyLoop (s : List ℕ) (k : Task) (places : List ℕ) (body left : ℕ) (w : Watch) (cur out old : List ℕ) : Type 0 where
   pub walkable : Walkable s k places
   pub low : body ≤ k .entry
-  pub few : done + left ≤ 10000
-  pub room : Roomy (k .bus) (65535 * (left * visits (treeAt s body))) (table (k .bus) (p .cur))
+  pub few : w .done + left ≤ 10000
+  pub size : length cur ≡ 256
+  pub size-out : length out ≡ 256
+  pub room : Roomy (k .bus) (65535 * (left * visits (treeAt s body))) (table (k .bus) cur)
+  pub small : Small w
+  pub watches : Watches (k .bus) (treeAt s body) cur old w
 
--- the unroller's tables on a bus: before the first iteration, after one more, after `left` more
-abbrev pub BegunAt : Bus → ℕ → List ℕ → Pass → Type 0
-BegunAt b least t r = Begun none longer (periodOf (slotsOf b)) least (table b t) (table b (r .cur)) (table b (r .out))
-
-abbrev pub TurnedAt : Bus → ℕ → ℕ → Pass → List ℕ → Pass → Type 0
-TurnedAt b least done p next r =
-    Turned none longer (periodOf (slotsOf b)) least done (table b (p .out)) (table b next) (table b (r .cur)) (table b (r .out))
-
-abbrev pub UnrolledAt : Bus → Tree → ℕ → ℕ → ℕ → Pass → Pass → Type 0
-UnrolledAt b body least done left p r =
-    Unrolled none longer (periodOf (slotsOf b)) (after b body) least done left (table b (p .cur)) (table b (p .out)) (table b (r .cur)) (table b (r .out))
+-- those that were done: all, or, once a cycle is found, some of them
+pub record Unrolls (b : Bus) (body : Tree) (least left : ℕ) (w : Watch) (cur out : List ℕ) (r : Watch) (cur' out' old' : List ℕ) : Type 0 where
+  pub more : w .done ≤ r .done
+  pub most : r .done ≤ w .done + left
+  pub ends : r .cycle ≡ 0 → r .done ≡ w .done + left
+  pub keeps : r .cycle ≡ 0 → w .cycle ≡ 0
+  pub off : w .span ≡ 0 → w .cycle ≡ 0 → (r .span ≡ 0) × (r .cycle ≡ 0)
+  pub size : length cur' ≡ 256
+  pub size-out : length out' ≡ 256
+  pub unrolled : UnrolledAt b body least (w .done) (r .done - w .done) cur out cur' out'
+  pub small : Small r
+  pub watches : Watches b body cur' old' r
 
 -- an array that holds at each offset what the arms of a branch join there
 abbrev pub Branched : Bus → Trees → List ℕ → List ℕ → Type 0

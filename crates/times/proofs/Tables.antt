@@ -12,7 +12,8 @@ use Rattle.runs.specs.Figures.{Time, later, longer, longestOf}
 use Rattle.runs.proofs.Cases.{split}
 use Rattle.runs.proofs.Joins.{row-same}
 use Rattle.runs.proofs.Meanings.{row-at}
-use Rattle.times.specs.Arrays.{noTime, timeOf, tableOf, Fits, LongerOf, LaterOf, Joined}
+use Rattle.runs.proofs.Shifted.{shifted-row}
+use Rattle.times.specs.Arrays.{noTime, timeOf, tableOf, Fits, LongerOf, LaterOf, Joined, Shifted}
 
 pub time-none : (n : ℕ) → n ≡ noTime → timeOf n ≡ none
 unfolding timeOf
@@ -97,3 +98,8 @@ pub longest-more : (P : ℕ) (t : List ℕ) (o x r : ℕ) → o < P → timeOf x
     → timeOf r ≡ longestOf (suc o) (tableOf P t)
 unfolding longestOf joinBelow LongerOf
 longest-more P t o x r l h e = e ∙ ap₂ longer h (sym (tableOf-at P t o l))
+
+pub shifted-all : (P : ℕ) (a : List ℕ) (q : ℕ) (b : List ℕ) → ((o : ℕ) → o < P → LaterOf (getD a o 0) q (getD b o 0)) → Shifted P a q b
+unfolding tableOf LaterOf
+shifted-all P a q b h =
+    row-same P (λ o. timeOf (getD b o 0)) (λ o. later q (timeOf (getD a o 0))) h ∙ sym (shifted-row q P (λ o. timeOf (getD a o 0)))

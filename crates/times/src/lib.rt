@@ -5,18 +5,20 @@
 //   plain_step, may_step, always_step   the table of the result is the definition's `times` of that block (`Stepped`)
 //   join                                place by place the longer time (`Joined`)
 //   longest                             the longest time of a table (`longestOf`)
+//   is_later, all_later                 a table with q cycles more at every time (`Shifted`)
 // Definitions: `times`, `longestOf` in crates/runs/specs/Figures.antt; what an array means (`tableOf`), what a step asks (`PlainReady`,
 // `BusReady`) and the promises in specs/Arrays.antt; those of the inner functions in specs/Windows.antt and specs/Accesses.antt.
 //
 // A step takes about P steps of work, whatever its durations: a block's durations are a window over the entries (`two_pass`), and all entries
 // that wait for the slot start at its first offset (`leave`).
 ghost use mathlib.Core.Path.{_≡_};
+ghost use mathlib.Core.Bool.{true};
 ghost use lib.ListN.{length};
 ghost use Prim.Native.Nat.{ℕ, _+_, _-_, _<_, _≤_, _%_, max, min};
 ghost use Rattle.runs.specs.Nodes.{may, always, Tree};
 ghost use Rattle.runs.specs.Figures.{longestOf};
 ghost use Rattle.bus.specs.Waits.{Ranges};
-ghost use Rattle.times.specs.Arrays.{noTime, timeOf, tableOf, Fits, Stepped, PlainReady, BusReady, Passed, LongerOf, LaterOf, Joined};
+ghost use Rattle.times.specs.Arrays.{noTime, timeOf, tableOf, Fits, Stepped, PlainReady, BusReady, Passed, LongerOf, LaterOf, Joined, Shifted};
 ghost use Rattle.times.specs.Windows.{Windowed, Suffixes, Prefixes, keyOf, Keyed, timeAt, Unkeyed, Turns, Room, SlotKeyed, SlotTimed, SlotRoom};
 ghost use Rattle.times.specs.Accesses.{Reach, Left};
 
@@ -58,17 +60,16 @@ pub fn always_step(b: bus::Bus, lo: usize, hi: usize, t: [u64; 256]) -> [u64; 25
     leave(t, a, period, first, slot, lo, hi)
 }
 
-// Place by place the longer time.
-pub fn join(a: [u64; 256], b: [u64; 256]) -> [u64; 256]
-    ensures { λ r. ⌜ Joined a b r ⌝ }
+// Place by place the longer time, in `out`.
+pub fn join(out: &mut [u64; 256], b: &[u64; 256])
+    requires { ⌜ length (now out) ≡ 256 ⌝ }
+    ensures { λ _. ⌜ (length (now (out .exit)) ≡ 256) × Joined (now (out .entry)) (now (b .entry)) (now (out .exit)) ⌝ }
 {
-    let mut out = [0xffff_ffff_ffff_ffffu64; 256];
     let mut o = 0;
     while o < 256 {
-        out[o] = longer_of(a[o], b[o]);
+        out[o] = longer_of(out[o], b[o]);
         o += 1;
     }
-    out
 }
 
 // The longest time of a table.
@@ -83,6 +84,69 @@ pub fn longest(t: [u64; 256], period: usize) -> u64
         o += 1;
     }
     best
+}
+
+// ---- a table with more cycles at every time
+
+// By how much b's time is above a's at the first offset that has one in a, or 0: what `is_later` is tried with. A guess promises nothing.
+pub fn rise(a: &[u64; 256], b: &[u64; 256], period: usize) -> u64
+    requires { ⌜ period ≤ 256 ⌝ }
+{
+    let mut o = 0;
+    while o < period {
+        if a[o] != 0xffff_ffff_ffff_ffff {
+            if a[o] <= b[o] {
+                return b[o] - a[o];
+            }
+            return 0;
+        }
+        o += 1;
+    }
+    0
+}
+
+// Is b the table a, q cycles later at every time? Any q may be tried.
+pub fn is_later(a: &[u64; 256], b: &[u64; 256], period: usize, q: u64) -> bool
+    requires { ⌜ period ≤ 256 ⌝ }
+    ensures { λ r. ⌜ (r ≡ true → Shifted period (now (a .entry)) q (now (b .entry))) ⌝ }
+{
+    let mut o = 0;
+    while o < period {
+        let same = same_by(a[o], b[o], q);
+        if !same {
+            return false;
+        }
+        o += 1;
+    }
+    true
+}
+
+// Every time of t below the period, n cycles later.
+pub fn all_later(t: &mut [u64; 256], period: usize, n: usize)
+    requires { ⌜ (length (now t) ≡ 256) × (period ≤ 256) × (n ≤ 0x1000_0000_0000_0000) × Fits period (now t) ⌝ }
+    ensures { λ _. ⌜ (length (now (t .exit)) ≡ 256) × Shifted period (now (t .entry)) n (now (t .exit)) ⌝ }
+{
+    let mut o = 0;
+    while o < period {
+        t[o] = later_by(t[o], n);
+        o += 1;
+    }
+}
+
+// Is y the time x, q cycles later?
+fn same_by(x: u64, y: u64, q: u64) -> bool
+    ensures { λ r. ⌜ (r ≡ true → LaterOf x q y) ⌝ }
+{
+    if x == 0xffff_ffff_ffff_ffff {
+        return y == 0xffff_ffff_ffff_ffff;
+    }
+    if y == 0xffff_ffff_ffff_ffff {
+        return false;
+    }
+    if y < x {
+        return false;
+    }
+    y - x == q
 }
 
 // ---- single times

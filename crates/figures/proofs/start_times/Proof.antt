@@ -85,7 +85,7 @@ returns c =
     let s = st .args .image .now in
     let few = st .pre .ranges .period-most in
     let e : l .i ≡ wordAt s 7 = omega (arith, st .pre .count) in
-    started s (st .args .b) (l .out) (λ o h. rw e at (l .inv .2 o (omega arith)))
+    (l .inv .1, started s (st .args .b) (l .out) (λ o h. rw e at (l .inv .2 o (omega arith))))
 
 pub start-times-spec : {M : Type 1} → statement M
 start-times-spec =

@@ -1,8 +1,7 @@
 -- A bus block's step is that of its kind.
 use borrow.Author.Needs.{needs}
-use mathlib.Core.Path.{_≡_}
-use Rattle.tight.proofs.block_step.Statement.{statement}
-use Rattle.tight.proofs.block_step.Tie as tie
+use Rattle.tight.proofs.bus_block.Statement.{statement}
+use Rattle.tight.proofs.bus_block.Tie as tie
 
 enum-told : tie.Need-enum-told
 enum-told c = search needs
@@ -17,12 +16,12 @@ always-step-requires : tie.Need-always-step-requires
 always-step-requires c κs = search needs
 
 returns : tie.Need-returns
-returns c = rw (c .before .enum-told .given .1) (c .may-step .ensures)
+returns c = rw (c .before .before .enum-told .given .1) (record { size = search needs; steps = c .may-step .ensures })
 
 returns-2 : tie.Need-returns-2
-returns-2 c = rw (c .before .enum-told2 .given .1) (c .always-step .ensures)
+returns-2 c = rw (c .before .before .enum-told2 .given .1) (record { size = search needs; steps = c .always-step .ensures })
 
-pub block-step-spec : {M : Type 1} → statement M
-block-step-spec =
+pub bus-block-spec : {M : Type 1} → statement M
+bus-block-spec =
     tie.close
     (tie.spec enum-told may-step-requires enum-told-2 always-step-requires returns returns-2)

@@ -1,0 +1,263 @@
+-- Inside a loop: what the unroller may be asked, and how its parts make the whole.
+use mathlib.Core.Path.{_≡_, refl, sym, _∙_, ap}
+use mathlib.Core.Option.{none}
+use mathlib.Core.List.{List}
+use lib.ListN.{length}
+use native.Mathlib.Omega.{arith}
+use native.Mathlib.Nat.{mul-le-mul-left, mul-le-mul-right, add-mul, add-zero, sub-zero, zero-mul, sub-self, not-suc-le-zero, le-refl}
+use Prim.Native.Nat.{ℕ, zero, suc, _+_, _-_, _*_, _/_, _≤_, _<_}
+use Rattle.runs.specs.Slots.{periodOf}
+use Rattle.runs.specs.Nodes.{Tree, visits}
+use Rattle.runs.specs.Carried.{iterate}
+use Rattle.runs.specs.Figures.{Time, longer}
+use Rattle.runs.specs.Parts.{Unrolled, shifted, Cyclic}
+use Rattle.runs.proofs.Cases.{split}
+use Rattle.runs.proofs.Joins.{longer-joins}
+use Rattle.runs.proofs.Loops.{unrolled-none, unrolled-one, unrolled-both}
+use Rattle.runs.proofs.Shifted.{shifted-zero, multiple, cycles-skip}
+use Rattle.bus.specs.declared.Bus.{Bus}
+use Rattle.bus.specs.Waits.{slotsOf}
+use Rattle.image.specs.Nodes.{treeAt}
+use Rattle.image.specs.Walks.{Walkable}
+use Rattle.image.specs.declared.Task.{Task}
+use Rattle.image.specs.declared.nodes.Loop.{Loop}
+use Rattle.image.proofs.Walks.{valid-at}
+use Rattle.times.specs.Arrays.{tableOf, Stepped, Shifted, Fits}
+use Rattle.cycles.specs.Cycles.{Jumps}
+use Rattle.tight.specs.declared.Watch.{Watch}
+use Rattle.tight.specs.Steps.{table, after, Roomy, Walked, Ready, ReadyRepeat, ReadyLoop, BegunAt, TurnedAt, UnrolledAt, Watches, Small, WatchedBy, SkippedBy, Unrolls}
+use Rattle.tight.proofs.Rooms.{room-less, room-fits, room-times}
+use Rattle.tight.proofs.Parts.{as-loop}
+use Rattle.tight.proofs.Watching.{commutes, whole}
+
+-- ---- parts of an unrolled loop
+
+module _ (s : List ℕ) (k : Task) (places : List ℕ) (body left : ℕ) (w : Watch) (cur out old : List ℕ) (r : ReadyLoop s k places body left w cur out old) where
+  abbrev x : Tree
+  x = treeAt s body
+
+  pub one-ready : left ≡ 1 → Ready s k places body cur
+  one-ready e = record {
+    walkable = r .walkable;
+    low = r .low;
+    size = r .size;
+    room = room-less (k .bus) _ _ (table (k .bus) cur) (omega arith) (rw e at (r .room));
+  }
+
+  pub half-ready : (h : ℕ) → h ≤ left → ReadyLoop s k places body h w cur out old
+  half-ready h l = record {
+    walkable = r .walkable;
+    low = r .low;
+    few = omega (arith, r .few);
+    size = r .size;
+    size-out = r .size-out;
+    room = room-less (k .bus) _ _ (table (k .bus) cur) (mul-le-mul-left 65535 (mul-le-mul-right (visits x) l)) (r .room);
+    small = r .small;
+    watches = r .watches;
+  }
+
+  -- room for n iterations after m others
+  pub later-room : (m n : ℕ) → m + n ≤ left → (T : List Time) → T ≡ iterate (after (k .bus) x) m (table (k .bus) cur)
+      → Roomy (k .bus) (65535 * (n * visits x)) T
+  later-room m n l T e =
+      rw e
+      (room-times s k places (r .walkable) x (valid-at s k places (r .walkable) body (r .low)) m _ (table (k .bus) cur)
+      (room-less (k .bus) _ _ (table (k .bus) cur) fits (r .room)))
+    where
+      fits : 65535 * (m * visits x) + 65535 * (n * visits x) ≤ 65535 * (left * visits x)
+      fits =
+          let f : (m + n) * visits x ≡ m * visits x + n * visits x = add-mul m n (visits x) in
+          omega (arith, f, mul-le-mul-right (visits x) l)
+
+  pub other-ready : (least h : ℕ) → h ≤ left → (a : Watch) (cur' out' old' : List ℕ) → Unrolls (k .bus) x least h w cur out a cur' out' old'
+      → ReadyLoop s k places body (left - h) a cur' out' old'
+  other-ready least h l a cur' out' old' u = record {
+    walkable = r .walkable;
+    low = r .low;
+    few = omega (arith, r .few, u .most);
+    size = u .size;
+    size-out = u .size-out;
+    room = later-room (a .done - w .done) (left - h) (omega (arith, u .most, u .more)) _ (u .unrolled .cur);
+    small = u .small;
+    watches = u .watches;
+  }
+
+  -- no iteration: none is left, or a cycle is known
+  pub none-unrolls : (least : ℕ) → (w .cycle ≡ 0 → left ≡ 0) → Unrolls (k .bus) x least left w cur out w cur out old
+  none-unrolls least stop = record {
+    more = le-refl (w .done);
+    most = omega arith;
+    ends = λ e. omega (arith, stop e);
+    keeps = λ e. e;
+    off = λ e f. (e, f);
+    size = r .size;
+    size-out = r .size-out;
+    unrolled = rw (sub-self (w .done)) (unrolled-none none longer longer-joins (periodOf (slotsOf (k .bus))) (after (k .bus) x) least (w .done) _ _);
+    small = r .small;
+    watches = r .watches;
+  }
+
+  -- one
+  pub one-unrolls : (least : ℕ) → left ≡ 1 → w .cycle ≡ 0 → (cur' out' old' : List ℕ) (a : Watch) → Walked (k .bus) x cur cur'
+      → length out' ≡ 256 → TurnedAt (k .bus) least (w .done) out cur' out' → (P : ℕ) → P ≡ periodOf (slotsOf (k .bus)) → WatchedBy P cur' old w old' a
+      → Unrolls (k .bus) x least left w cur out a cur' out' old'
+  one-unrolls least e none-yet cur' out' old' a step size turned P is seen =
+      let one : a .done - w .done ≡ 1 = omega (arith, seen .counts) in
+      record {
+        more = omega (arith, seen .counts);
+        most = omega (arith, seen .counts);
+        ends = λ z. omega (arith, seen .counts);
+        keeps = λ z. none-yet;
+        off = λ z f. seen .off z;
+        size = step .size;
+        size-out = size;
+        unrolled = rw one (unrolled-one none longer longer-joins (periodOf (slotsOf (k .bus))) (after (k .bus) x) least (w .done) _ _ _ _ _ (step .steps) turned);
+        small = seen .small;
+        watches = seen .watches (k .bus) x (sym is) cur (r .watches) (step .steps);
+      }
+
+-- two parts
+pub both-unroll : (b : Bus) (x : Tree) (least left h : ℕ) → h ≤ left → (w a q : Watch) (cur out cur₁ out₁ old₁ cur' out' old' : List ℕ)
+    → Unrolls b x least h w cur out a cur₁ out₁ old₁ → Unrolls b x least (left - h) a cur₁ out₁ q cur' out' old'
+    → Unrolls b x least left w cur out q cur' out' old'
+both-unroll b x least left h l w a q cur out cur₁ out₁ old₁ cur' out' old' u v =
+    let all : (a .done - w .done) + (q .done - a .done) ≡ q .done - w .done = omega (arith, u .more, v .more) in
+    let mid : w .done + (a .done - w .done) ≡ a .done = omega (arith, u .more) in
+    record {
+      more = omega (arith, u .more, v .more);
+      most = omega (arith, u .most, v .most);
+      ends = λ e. omega (arith, u .ends (v .keeps e), v .ends e);
+      keeps = λ e. u .keeps (v .keeps e);
+      off = λ e f. let g = u .off e f in v .off (g .0) (g .1);
+      size = v .size;
+      size-out = v .size-out;
+      unrolled =
+          rw (← all)
+          (unrolled-both none longer longer-joins (periodOf (slotsOf b)) (after b x) least (w .done) (a .done - w .done) (q .done - a .done) _ _ _ _ _ _
+          (u .unrolled) (rw mid (v .unrolled)));
+      small = v .small;
+      watches = v .watches;
+    }
+
+-- ---- whole loops
+
+module _ (s : List ℕ) (k : Task) (places : List ℕ) (node : ℕ) (l : Loop) (t : List ℕ) (r : ReadyRepeat s k places node l t) where
+  abbrev y : Tree
+  y = treeAt s (l .body)
+
+  abbrev fresh : Watch
+  fresh = record { done = 0; gap = 0; span = 1; cycle = 0; gain = 0 }
+
+  pub begun-ready : (out : List ℕ) → length out ≡ 256 → ReadyLoop s k places (l .body) (l .greatest) fresh t out t
+  unfolding iterate
+  begun-ready out size = record {
+    walkable = r .walkable;
+    low = omega (arith, r .low, r .below);
+    few = omega (arith, r .few);
+    size = r .size;
+    size-out = size;
+    room = r .room;
+    small = record { gap-most = omega arith; span-most = omega arith; cycle-most = omega arith; gain-most = omega arith };
+    watches = record { past = λ m. refl; cyclic = λ m. absurd (not-suc-le-zero m) };
+  }
+
+  module _ (out : List ℕ) (size : length out ≡ 256) (a : Watch) (cur₁ out₁ old₁ : List ℕ)
+      (u : Unrolls (k .bus) y (l .least) (l .greatest) fresh t out a cur₁ out₁ old₁) where
+    pub seen-few : a .done ≤ l .greatest
+    seen-few = omega (arith, u .most)
+
+    pub seen-ready : ReadyLoop s k places (l .body) (l .greatest - a .done) a cur₁ out₁ old₁
+    seen-ready =
+        let b = begun-ready out size in
+        record {
+          walkable = r .walkable;
+          low = b .low;
+          few = omega (arith, r .few, u .most);
+          size = u .size;
+          size-out = u .size-out;
+          room =
+              later-room s k places (l .body) (l .greatest) fresh t out t b (a .done - 0) (l .greatest - a .done) (omega (arith, u .most)) _ (u .unrolled .cur);
+          small = u .small;
+          watches = u .watches;
+        }
+
+    pub seen-fits : Fits (periodOf (slotsOf (k .bus))) cur₁
+    seen-fits = room-fits (k .bus) _ cur₁ (seen-ready .room)
+
+    module _ (P : ℕ) (is : P ≡ periodOf (slotsOf (k .bus))) (q : Watch) (cur₂ : List ℕ) (e : SkippedBy P (l .greatest - a .done) a cur₁ cur₂ q) where
+      abbrev n : ℕ
+      n = e .skips .0
+
+      by-gain : table (k .bus) cur₂ ≡ shifted (n * a .gain) (table (k .bus) cur₁)
+      by-gain = rw is at (e .skips .3)
+
+      fits : n * a .cycle ≤ l .greatest - a .done
+      fits = whole (l .greatest - a .done) a n (seen-ready .few) (e .skips .1)
+
+      pub skip-few : q .done ≤ l .greatest
+      skip-few = omega (arith, fits, e .skips .2, u .most)
+
+      -- the table behind the skipped cycles
+      skip-cur : table (k .bus) cur₂ ≡ iterate (after (k .bus) y) (n * a .cycle) (table (k .bus) cur₁)
+      unfolding iterate
+      skip-cur =
+          split 1 n
+          (λ m. by-gain ∙ sym (multiple (after (k .bus) y) (commutes (k .bus) y) (a .cycle) (a .gain) _ (u .watches .cyclic (e .skips .1 .room m .0)) n))
+          (λ m. let z : n ≡ 0 = omega arith in
+          by-gain ∙ rw (z, zero-mul (a .gain), zero-mul (a .cycle)) (shifted-zero (table (k .bus) cur₁)))
+
+      pub rest-ready : ReadyLoop s k places (l .body) (l .greatest - q .done) q cur₂ out₁ old₁
+      rest-ready = record {
+        walkable = r .walkable;
+        low = seen-ready .low;
+        few = omega (arith, r .few, skip-few);
+        size = e .size;
+        size-out = u .size-out;
+        room =
+            later-room s k places (l .body) (l .greatest - a .done) a cur₁ out₁ old₁ seen-ready (n * a .cycle) (l .greatest - q .done)
+            (omega (arith, fits, e .skips .2)) _ skip-cur;
+        small = record {
+          gap-most = omega (arith, e .off .0);
+          span-most = omega (arith, e .off .1);
+          cycle-most = omega (arith, e .off .2);
+          gain-most = omega (arith, e .off .3);
+        };
+        watches = record { past = λ m. absurd (omega (arith, e .off .1)); cyclic = λ m. absurd (omega (arith, e .off .2)) };
+      }
+
+      -- unrolling the rest is unrolling all that was left
+      skip-unrolled : (cur' out' : List ℕ) → UnrolledAt (k .bus) y (l .least) (a .done + n * a .cycle) (l .greatest - a .done - n * a .cycle) cur₂ out₁ cur' out'
+          → UnrolledAt (k .bus) y (l .least) (a .done) (l .greatest - a .done) cur₁ out₁ cur' out'
+      skip-unrolled cur' out' v =
+          split 1 n
+          (λ m. let j = e .skips .1 .room m in
+          cycles-skip (after (k .bus) y) (commutes (k .bus) y) (a .cycle) (a .gain) _ (u .watches .cyclic (j .0)) (j .0) (periodOf (slotsOf (k .bus)))
+          (l .least) (a .done) (l .greatest - a .done) n (j .1) _ _ _ _ (by-gain) v)
+          (λ m. let z : n ≡ 0 = omega arith in
+          let same : table (k .bus) cur₂ ≡ table (k .bus) cur₁ =
+          by-gain ∙ rw (z, zero-mul (a .gain)) (shifted-zero (table (k .bus) cur₁)) in
+          rw same at (rw (z, zero-mul (a .cycle), add-zero, sub-zero) at v))
+
+      counted : (cur' out' : List ℕ) (d d' m m' : ℕ) → d ≡ d' → m ≡ m' → UnrolledAt (k .bus) y (l .least) d m cur₂ out₁ cur' out'
+          → UnrolledAt (k .bus) y (l .least) d' m' cur₂ out₁ cur' out'
+      counted cur' out' d d' m m' h g v = rw (h, g) at v
+
+      pub repeat-steps : (z : Watch) (cur' out' old' : List ℕ) → BegunAt (k .bus) (l .least) t out
+          → Unrolls (k .bus) y (l .least) (l .greatest - q .done) q cur₂ out₁ z cur' out' old'
+          → Walked (k .bus) (Tree.loop (l .least) (l .greatest) y) t out'
+      repeat-steps z cur' out' old' g v =
+          let o = e .off in
+          let ends : z .done ≡ q .done + (l .greatest - q .done) = v .ends (v .off (o .1) (o .2) .1) in
+          let left : z .done - q .done ≡ l .greatest - a .done - n * a .cycle = omega (arith, ends, e .skips .2, skip-few) in
+          let rest = skip-unrolled cur' out' (counted cur' out' (q .done) _ (z .done - q .done) _ (e .skips .2) left (v .unrolled)) in
+          let first = u .unrolled in
+          let whole-count : (a .done - 0) + (l .greatest - a .done) ≡ l .greatest = omega (arith, u .most) in
+          let from : 0 + (a .done - 0) ≡ a .done = omega arith in
+          record {
+            size = v .size-out;
+            steps =
+                as-loop (k .bus) (Tree.loop (l .least) (l .greatest) y) t y (l .least) (l .greatest) out cur' out' refl g
+                (rw (← whole-count)
+                (unrolled-both none longer longer-joins (periodOf (slotsOf (k .bus))) (after (k .bus) y) (l .least) 0 (a .done - 0) (l .greatest - a .done)
+                _ _ _ _ _ _ first (rw from rest)));
+          }
