@@ -1,91 +1,96 @@
--- Before offset o is tried, `most` is the cost over the offsets of s below o, by the highest duration alone (`cost-highest`).
-use mathlib.Core.Path.{_≡_, sym, _∙_, ap, ap₂}
-use mathlib.Core.Logic.{⊎-elim}
-use native.Mathlib.Omega.{arith}
-use borrow.Author.Needs.{needs}
-use Prim.Native.Nat.{ℕ, _+_, _-_, _≤_, max}
+-- The least offset that missed the slot, else the least of all, decides, by the highest duration alone.
+use mathlib.Core.Path.{_≡_, sym, _∙_, ap}
+use Prim.Native.Nat.{ℕ, _+_}
 use Rattle.bus.specs.Waits.{slotsOf}
 use Rattle.offsets.specs.Sets.{value}
-use Rattle.exits.specs.Exits.{busPeriod}
-use Rattle.exits.proofs.Ranged.{wait-below}
-use Rattle.exits.proofs.Highest.{costBelow, cost-none, cost-more, cost-same, cost-highest}
+use Rattle.exits.proofs.Highest.{NoneMissed, wait-most, cost-missed, none-missed, cost-low, cost-none}
+use native.Mathlib.Omega.{arith}
+use borrow.Author.Needs.{needs}
 use Rattle.exits.proofs.access_cost.Statement.{statement}
 use Rattle.exits.proofs.access_cost.Tie as tie
 
-abbrev Inv-loop : tie.InvT-loop
-Inv-loop b lo hi s p most₀ o₀ most o = (o ≤ p) × (most ≡ costBelow (slotsOf b) hi (value s) o)
-
-abbrev μ-loop : tie.MeasureT-loop
-μ-loop b lo hi s p most₀ o₀ most o = p - o
-
-period-requires : tie.Need-period-requires Inv-loop μ-loop
+period-requires : tie.Need-period-requires
 period-requires c κs = search needs
 
-loop-holds : tie.Need-loop-holds Inv-loop μ-loop
-loop-holds c =
-    let a = c .before .args in (search needs, sym (cost-none (slotsOf (a .b)) (a .hi) (value (a .s))))
+first-requires : tie.Need-first-requires
+first-requires c κs = search needs
 
-contains-requires : tie.Need-contains-requires Inv-loop μ-loop
-contains-requires c κs = search needs
+add-again : tie.Need-add-again
+add-again c = search needs
 
-wait-requires : tie.Need-wait-requires Inv-loop μ-loop
+add-again-2 : tie.Need-add-again-2
+add-again-2 c = search needs
+
+sub-again : tie.Need-sub-again
+sub-again c = search needs
+
+lowest-requires : tie.Need-lowest-requires
+lowest-requires c κs = search needs
+
+wait-requires : tie.Need-wait-requires
 wait-requires c κs = search needs
 
-add-larger : tie.Need-add-larger Inv-loop μ-loop
-add-larger c =
-    let s : tie.Start Inv-loop μ-loop = c .before .before .before .before .before .before in
-    omega (arith, s .pre .ranges .period-most, wait-below (s .args .b) (c .wait .ensures) (search needs))
+add-result : tie.Need-add-result
+add-result c = let s : tie.Start = c .before .before .before .before .before .before in let w = c .wait .ensures in omega (arith, w, wait-most (slotsOf (s .args .b)) (s .args .hi) (c .before .before .lowest .result), s .pre .ranges .period-most, c .before .before .before .before .first .ensures, s .pre .most)
 
-larger-requires : tie.Need-larger-requires Inv-loop μ-loop
-larger-requires c κs = search needs
-
-add-o : tie.Need-add-o Inv-loop μ-loop
-add-o c = search needs
-
-loop-less : tie.Need-loop-less Inv-loop μ-loop
-loop-less c = search needs
-
-loop-again : tie.Need-loop-again Inv-loop μ-loop
-loop-again c =
-    let a = c .before .before .before .before .before .args in
-    let v = slotsOf (a .b) in
-    let n = value (a .s) in
-    let l = c .before .before .before .loop in
-    let here = c .before .contains in (
-      search needs,
-      ⊎-elim
-          (λ w.
-          w .3
-          ∙ w .2 .ensures
-          ∙ ap₂ max (l .inv .1) (ap (λ (x : ℕ). x + a .hi) (w .1 .ensures))
-          ∙ sym (cost-more v (a .hi) n (l .o) (sym (here .ensures) ∙ w .0 .taken)))
-          (λ w. w .1 ∙ l .inv .1 ∙ sym (cost-same v (a .hi) n (l .o) (sym (here .ensures) ∙ w .0 .left)))
-          (c .if1 .came),
-    )
-
-returns : tie.Need-returns Inv-loop μ-loop
-returns c =
-    let s : tie.Start Inv-loop μ-loop = c .before .before .before in
+-- no offset missed the slot
+early : (c : tie.Else1) → NoneMissed (slotsOf (c .before .before .before .before .before .args .b)) (c .before .before .before .before .before .args .hi) (value (c .before .before .before .before .before .args .s))
+early c =
+    let s : tie.Start = c .before .before .before .before .before in
     let a = s .args in
-    let l = c .before .loop in
-    let e : l .o ≡ busPeriod (a .b) = omega (arith, c .before .before .period .ensures) in
-    l .inv .1
-    ∙ ap (λ (o : ℕ). costBelow (slotsOf (a .b)) (a .hi) (value (a .s)) o) e
-    ∙ sym (cost-highest (slotsOf (a .b)) (a .lo) (a .hi) (a .s) (s .pre .ordered))
+    let x = rw (c .before .before .before .first .ensures .0) at (c .before .lowest .ensures) in
+    none-missed (slotsOf (a .b)) (a .lo) (a .hi) (a .s) (s .pre .ordered) (s .pre .most) _ (c .before .lowest .result) x
+    (omega (arith, c .if1 .left, c .before .before .before .before .period .ensures))
+
+returns : tie.Need-returns
+returns c =
+    let s : tie.Start = c .before .before .before .before .before .before in
+    let a = s .args in
+    let period = c .before .before .before .before .before .period in
+    let x = rw (c .before .before .before .before .first .ensures .0) at (c .before .before .lowest .ensures) in
+    ap (λ (n : ℕ). n + a .hi) (c .wait .ensures)
+    ∙ cost-missed (slotsOf (a .b)) (a .lo) (a .hi) (a .s) (s .pre .ordered) (s .pre .most) _ (c .before .before .lowest .result) x
+    (omega (arith, c .before .if1 .taken, period .ensures)) (omega (arith, s .pre .ranges .period-most))
+
+lowest-requires-2 : tie.Need-lowest-requires-2
+lowest-requires-2 c κs = search needs
+
+wait-requires-2 : tie.Need-wait-requires-2
+wait-requires-2 c κs = search needs
+
+add-result-2 : tie.Need-add-result-2
+add-result-2 c = let s : tie.Start = c .before .before .before .before .before .before .before .before in let w = c .wait2 .ensures in omega (arith, w, wait-most (slotsOf (s .args .b)) (s .args .hi) (c .before .before .lowest2 .result), s .pre .ranges .period-most, c .before .before .before .before .before .before .first .ensures, s .pre .most)
+
+returns-2 : tie.Need-returns-2
+returns-2 c =
+    let s : tie.Start = c .before .before .before .before .before .before .before .before in
+    let a = s .args in
+    ap (λ (n : ℕ). n + a .hi) (c .wait2 .ensures)
+    ∙ cost-low (slotsOf (a .b)) (a .lo) (a .hi) (a .s) (s .pre .ordered) (s .pre .most) (early (c .before .before .before)) 256 (c .before .before .lowest2 .result)
+    (c .before .before .lowest2 .ensures) (s .pre .ranges .period-most) (omega (arith, c .before .if2 .taken, c .before .before .before .before .before .before .before .period .ensures))
+
+returns-3 : tie.Need-returns-3
+returns-3 c =
+    let s : tie.Start = c .before .before .before .before .before .before .before in
+    let a = s .args in
+    cost-none (slotsOf (a .b)) (a .lo) (a .hi) (a .s) (s .pre .ordered) (s .pre .most) (early (c .before .before)) 256 (c .before .lowest2 .result)
+    (c .before .lowest2 .ensures) (s .pre .ranges .period-most) (omega (arith, c .if2 .left, c .before .before .before .before .before .before .period .ensures))
 
 pub access-cost-spec : {M : Type 1} → statement M
 access-cost-spec =
     tie.close
     (tie.spec
-    Inv-loop
-    μ-loop
     period-requires
-    loop-holds
-    contains-requires
+    first-requires
+    add-again
+    add-again-2
+    sub-again
+    lowest-requires
     wait-requires
-    add-larger
-    larger-requires
-    add-o
-    loop-less
-    loop-again
-    returns)
+    add-result
+    returns
+    lowest-requires-2
+    wait-requires-2
+    add-result-2
+    returns-2
+    returns-3)

@@ -1,0 +1,355 @@
+//! The job of `figure` done the plain way, for the comparison of speed (bench/README.md): a task image on standard input, its listing on
+//! standard output, as document 01 has them, refusals included. Standard library only.
+//!
+//! The plain way: each visit of a block takes every reached offset and every duration, and a loop is unrolled by a plain loop. Nothing is
+//! kept from one visit to another and no iteration is skipped. What it does not do: it has no library entry that is lent a table, so that
+//! number 10 never comes up; and nothing about it is proved.
+
+use std::fmt::Write as _;
+use std::io::{Read, Write};
+
+/// For each offset below the period the longest time of the runs that are there, or `NONE`.
+type Times = [u64; 256];
+const NONE: u64 = u64::MAX;
+
+/// For each offset below the period whether it is in the set.
+type Set = [bool; 256];
+
+/// The core's slot on the bus: its first offset, its length, and the period, cores × slot.
+#[derive(Clone, Copy, Default)]
+struct Bus {
+    first: usize,
+    slot: usize,
+    period: usize,
+}
+
+/// Any duration from lowest to highest: passed, accessed for, or either.
+#[derive(Clone, Copy)]
+struct Block {
+    passes: bool,
+    accesses: bool,
+    lowest: usize,
+    highest: usize,
+}
+
+/// The children of a sequence or branch stay in the image, two bytes each.
+#[derive(Clone, Copy)]
+enum Node<'a> {
+    Plain(Block),
+    Bus(Block),
+    Sequence(&'a [u8]),
+    Branch(&'a [u8]),
+    Loop { least: usize, greatest: usize, body: usize },
+}
+
+#[derive(Default)]
+struct Task<'a> {
+    bus: Bus,
+    starts: &'a [u8],
+    nodes: Vec<Node<'a>>,
+}
+
+struct Refusal {
+    number: u32,
+    place: usize,
+}
+
+// ---- judging
+
+/// Fields are judged from the front, each in the order head cut, 2, 3, 4, body cut, 5, 6; then 7, 8, 9.
+fn judge(image: &[u8]) -> Result<Task<'_>, Refusal> {
+    let mut task = Task::default();
+    let mut sizes: Vec<(usize, usize)> = Vec::new(); // each node's depth and visits
+    let mut place = 0;
+    let mut field = 0;
+    while place < image.len() {
+        let refuse = |number| Err(Refusal { number, place });
+        let [tag, high, low, rest @ ..] = &image[place..] else { return refuse(1) };
+        let tag_fits = match field {
+            0 => *tag == 1,
+            1 => *tag == 2,
+            _ => (3..=7).contains(tag),
+        };
+        if !tag_fits {
+            return refuse(2);
+        }
+        if task.nodes.len() == 256 {
+            return refuse(3);
+        }
+        let length = word(&[*high, *low]);
+        let length_fits = match tag {
+            1 | 4 => length == 3,
+            2 => (1..=256).contains(&length),
+            3 => length == 4,
+            5 => (2..=32).contains(&length) && length % 2 == 0,
+            6 => (4..=16).contains(&length) && length % 2 == 0,
+            _ => length == 6,
+        };
+        if !length_fits {
+            return refuse(4);
+        }
+        let Some(body) = rest.get(..length) else { return refuse(1) };
+        match tag {
+            1 => {
+                let (cores, slot, core) = (body[0] as usize, body[1] as usize, body[2] as usize);
+                if !(2..=16).contains(&cores) || !(1..=128).contains(&slot) || core >= cores || cores * slot > 256 {
+                    return refuse(5);
+                }
+                task.bus = Bus { first: core * slot, slot, period: cores * slot };
+            }
+            2 => {
+                let below_period = body.iter().all(|&o| (o as usize) < task.bus.period);
+                if !below_period || !body.windows(2).all(|two| two[0] < two[1]) {
+                    return refuse(5);
+                }
+                task.starts = body;
+            }
+            _ => {
+                let Some(node) = node(*tag, body, &task.bus) else { return refuse(5) };
+                let Some(size) = size(&node, &sizes) else { return refuse(6) };
+                task.nodes.push(node);
+                sizes.push(size);
+            }
+        }
+        place += 3 + length;
+        field += 1;
+    }
+    let refuse = |number| Err(Refusal { number, place });
+    match sizes.last() {
+        None => refuse(7),
+        Some((depth, _)) if *depth > 24 => refuse(8),
+        Some((_, visits)) if *visits > 100_000 => refuse(9),
+        _ => Ok(task),
+    }
+}
+
+/// A number of two bytes, the high byte first.
+fn word(bytes: &[u8]) -> usize {
+    bytes[0] as usize * 256 + bytes[1] as usize
+}
+
+/// The node of a field, or none where a number breaks its row's rules.
+fn node<'a>(tag: u8, body: &'a [u8], bus: &Bus) -> Option<Node<'a>> {
+    let (node, good) = match tag {
+        3 => {
+            let (lowest, highest) = (word(body), word(&body[2..]));
+            (Node::Plain(Block { passes: true, accesses: false, lowest, highest }), lowest <= highest && highest - lowest <= 63)
+        }
+        4 => {
+            let (kind, lowest, highest) = (body[0], body[1] as usize, body[2] as usize);
+            let good = (kind == 1 || kind == 2) && 1 <= lowest && lowest <= highest && highest <= bus.slot;
+            (Node::Bus(Block { passes: kind == 1, accesses: true, lowest, highest }), good)
+        }
+        5 => (Node::Sequence(body), true),
+        6 => (Node::Branch(body), true),
+        _ => {
+            let (least, greatest, body) = (word(body), word(&body[2..]), word(&body[4..]));
+            (Node::Loop { least, greatest, body }, least <= greatest && greatest <= 10_000)
+        }
+    };
+    good.then_some(node)
+}
+
+/// Depth and visits (kept at 100,001 where there are more) of a node after those of `sizes`, or none where a child is not one of them.
+fn size(node: &Node, sizes: &[(usize, usize)]) -> Option<(usize, usize)> {
+    let (depth, visits) = match node {
+        Node::Plain(_) | Node::Bus(_) => (0, 0),
+        Node::Sequence(body) | Node::Branch(body) => {
+            let (mut deepest, mut sum) = (0, 0);
+            for child in children(body) {
+                let (depth, visits) = sizes.get(child)?;
+                deepest = deepest.max(*depth);
+                sum += visits;
+            }
+            (deepest, sum)
+        }
+        Node::Loop { greatest, body, .. } => {
+            let (depth, visits) = sizes.get(*body)?;
+            (*depth, greatest * visits)
+        }
+    };
+    Some((1 + depth, (1 + visits).min(100_001)))
+}
+
+fn children(body: &[u8]) -> impl Iterator<Item = usize> + '_ {
+    body.chunks_exact(2).map(word)
+}
+
+// ---- figures
+
+impl Task<'_> {
+    /// Every execution of a block from an offset: the offset at which it ends, and its cycles.
+    #[inline(always)]
+    fn executions(&self, block: &Block, offset: usize, mut each: impl FnMut(usize, u64)) {
+        let Bus { first, slot, period } = self.bus;
+        if block.passes {
+            let mut end = (offset + block.lowest) % period;
+            for duration in block.lowest..block.highest + 1 {
+                each(end, duration as u64);
+                end = if end + 1 == period { 0 } else { end + 1 };
+            }
+        }
+        if block.accesses {
+            for duration in block.lowest..block.highest + 1 {
+                let wait = if offset < first {
+                    first - offset
+                } else if offset + duration <= first + slot {
+                    0
+                } else {
+                    first + period - offset
+                };
+                // an access ends inside its slot, or with it
+                let start = if wait == 0 { offset } else { first };
+                let end = if start + duration == period { 0 } else { start + duration };
+                each(end, (wait + duration) as u64);
+            }
+        }
+    }
+
+    /// Tight: the table of longest times goes through a node.
+    fn longest(&self, node: usize, times: &mut Times) {
+        match &self.nodes[node] {
+            Node::Plain(block) | Node::Bus(block) => {
+                let mut exits = [NONE; 256];
+                for (offset, &time) in times[..self.bus.period].iter().enumerate() {
+                    if time != NONE {
+                        self.executions(block, offset, |end, cycles| keep_longer(&mut exits[end], time + cycles));
+                    }
+                }
+                *times = exits;
+            }
+            Node::Sequence(body) => {
+                for child in children(body) {
+                    self.longest(child, times);
+                }
+            }
+            Node::Branch(body) => {
+                let entry = *times;
+                *times = [NONE; 256];
+                for arm in children(body) {
+                    let mut exits = entry;
+                    self.longest(arm, &mut exits);
+                    self.join_times(times, &exits);
+                }
+            }
+            Node::Loop { least, greatest, body } => {
+                let mut current = *times;
+                if *least > 0 {
+                    *times = [NONE; 256];
+                }
+                for done in 1..greatest + 1 {
+                    self.longest(*body, &mut current);
+                    if done >= *least {
+                        self.join_times(times, &current);
+                    }
+                }
+            }
+        }
+    }
+
+    fn join_times(&self, into: &mut Times, from: &Times) {
+        for (place, &time) in into.iter_mut().zip(from).take(self.bus.period) {
+            if time != NONE {
+                keep_longer(place, time);
+            }
+        }
+    }
+
+    /// Published: the set of offsets goes through a node; the cost is given back.
+    fn cost(&self, node: usize, set: &mut Set) -> u64 {
+        match &self.nodes[node] {
+            Node::Plain(block) => {
+                self.exits(block, set);
+                block.highest as u64
+            }
+            Node::Bus(block) => self.exits(block, set),
+            Node::Sequence(body) => children(body).map(|child| self.cost(child, set)).sum(),
+            Node::Branch(body) => {
+                let entry = *set;
+                *set = [false; 256];
+                let mut largest = 0;
+                for arm in children(body) {
+                    let mut exits = entry;
+                    largest = largest.max(self.cost(arm, &mut exits));
+                    join_sets(set, &exits);
+                }
+                largest
+            }
+            Node::Loop { least, greatest, body } => {
+                let mut current = *set;
+                if *least > 0 {
+                    *set = [false; 256];
+                }
+                let mut sum = 0;
+                for done in 1..greatest + 1 {
+                    sum += self.cost(*body, &mut current);
+                    if done >= *least {
+                        join_sets(set, &current);
+                    }
+                }
+                sum
+            }
+        }
+    }
+
+    /// The exit set of a block; the most cycles of its executions are given back.
+    fn exits(&self, block: &Block, set: &mut Set) -> u64 {
+        let mut exits = [false; 256];
+        let mut most = 0;
+        for (offset, &there) in set[..self.bus.period].iter().enumerate() {
+            if there {
+                self.executions(block, offset, |end, cycles| {
+                    exits[end] = true;
+                    most = most.max(cycles);
+                });
+            }
+        }
+        *set = exits;
+        most
+    }
+}
+
+fn keep_longer(place: &mut u64, time: u64) {
+    if *place == NONE || *place < time {
+        *place = time;
+    }
+}
+
+fn join_sets(into: &mut Set, from: &Set) {
+    for (place, &there) in into.iter_mut().zip(from) {
+        *place |= there;
+    }
+}
+
+// ---- the program
+
+fn listing(image: &[u8]) -> String {
+    let mut text = String::with_capacity(8192);
+    let task = match judge(image) {
+        Ok(task) => task,
+        Err(Refusal { number, place }) => return format!("refused {number} {place}\n"),
+    };
+    let mut times = [NONE; 256];
+    let mut set = [false; 256];
+    for &start in task.starts {
+        times[start as usize] = 0;
+        set[start as usize] = true;
+    }
+    let entry = task.nodes.len() - 1;
+    task.longest(entry, &mut times);
+    let published = task.cost(entry, &mut set);
+    let exits = || times[..task.bus.period].iter().enumerate().filter(|(_, &time)| time != NONE);
+    let tight = exits().map(|(_, &time)| time).max().unwrap_or(0);
+    let _ = write!(text, "tight {tight}\npublished {published}\nexits {}\n", exits().count());
+    for (offset, time) in exits() {
+        let _ = writeln!(text, "{offset} {time}");
+    }
+    text
+}
+
+/// At most 16,384 bytes are read; input that cannot be read counts as ended.
+fn main() {
+    let mut image = Vec::with_capacity(16_384);
+    let _ = std::io::stdin().take(16_384).read_to_end(&mut image);
+    let _ = std::io::stdout().write_all(listing(&image).as_bytes());
+}
