@@ -6,7 +6,7 @@
  * Every array is a pointer and then its number of elements. What no proof covers is the caller's side:
  *   - a pointer is not NULL and is aligned for its type, even where the number is 0 (nothing is then read or written through it);
  *   - the array has that many elements, and the arrays of one call do not overlap;
- *   - slotfigures_figures has 4 MiB of stack, slotfigures_judge 32 KiB.
+ *   - slotfigures_figures has 1 MiB of stack, slotfigures_judge 32 KiB.
  * Nothing is kept between calls, and no memory is allocated: calls from several threads do not disturb each other.
  */
 #ifndef SLOTFIGURES_H

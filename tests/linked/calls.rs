@@ -131,7 +131,7 @@ fn within_the_stack() -> bool {
             })
             && table[2] == time
     };
-    let thread = std::thread::Builder::new().stack_size(4 << 20).spawn(call);
+    let thread = std::thread::Builder::new().stack_size(1 << 20).spawn(call);
     thread.expect("a thread").join().expect("no panic")
 }
 
@@ -163,6 +163,6 @@ fn main() {
     } else {
         Some("other figures".to_string())
     };
-    tell("the deepest calls in 4 MiB of stack", stack);
+    tell("the deepest calls in 1 MiB of stack", stack);
     std::process::exit(failed as i32);
 }

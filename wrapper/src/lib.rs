@@ -1,7 +1,7 @@
 //! Both figures, the exit count and the table of exit offsets of a task image: a safe wrapper of the proved functions of
 //! `crates/linked`, which `include/slotfigures.h` describes. Every length that is passed on is a slice's own.
 //!
-//! [`figures`] is to have 4 MiB of stack. A spawned thread has 2 MiB unless `std::thread::Builder::stack_size` says otherwise; where the
+//! [`figures`] is to have 1 MiB of stack. A spawned thread has 2 MiB unless `std::thread::Builder::stack_size` says otherwise; where the
 //! stack ends, the program does.
 
 use std::fmt;
