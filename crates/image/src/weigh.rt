@@ -2,11 +2,9 @@
 // held as the limit and one more, which decides the same and never overflows.
 ghost use mathlib.Core.Path.{_≡_};
 ghost use Prim.Native.Nat.{_+_, _-_, _*_, _≤_, _<_, min, max};
-ghost use Rattle.runs.specs.Nodes.{depth, deepest, visits, visitsAll};
-ghost use Rattle.image.specs.Nodes.{treeAt, childTrees};
 ghost use Rattle.image.specs.Conditions.{Passed};
 ghost use Rattle.image.specs.Promise.{NamesBelow, Standing};
-ghost use Rattle.image.specs.Inner.{Placed, Holds};
+ghost use Rattle.image.specs.Inner.{Placed, Weighed, Together, Weighs};
 use crate::nodes::Node;
 use crate::nodes::node_at;
 use crate::read::word;
@@ -28,68 +26,74 @@ fn at_most(cap: usize, x: usize) -> usize
     if cap < x { cap } else { x }
 }
 
-// The greatest depth of the `count` children of node n whose numbers stand from a place on, or 25 where it is more.
-fn deepest_of(image: &[u8], place: usize, count: usize, n: usize, table: &[usize; 256]) -> usize
-    requires { ⌜ (place + 2 * count < 18446744073709551615) × (n ≤ 256) × (NamesBelow (now image) place count n) × (Holds 25 (λ k. depth (treeAt (now image) k)) n (now table)) ⌝ }
-    ensures { λ r. ⌜ r ≡ min 25 (deepest (childTrees (now (image .entry)) place count)) ⌝ }
+// The `count` children of node n whose numbers stand from a place on: their greatest depth, up to 25, and their visits together, exact
+// up to 100,000. The tables have those of the nodes before n.
+fn over_children(
+    image: &[u8],
+    place: usize,
+    count: usize,
+    n: usize,
+    depths: &[usize; 256],
+    visits: &[usize; 256],
+) -> Weight
+    requires { ⌜ (place + 2 * count < 18446744073709551615) × (count ≤ 16) × (n ≤ 256) × (NamesBelow (now image) place count n) × (Weighed (now image) n (now depths) (now visits)) ⌝ }
+    ensures { λ r. ⌜ Together (now (image .entry)) place count r ⌝ }
 {
     let mut best = 0;
-    let mut i = 0;
-    while i < count {
-        let child = word(image, place + 2 * i);
-        best = larger(best, table[child]);
-        i += 1;
-    }
-    best
-}
-
-// The visits of those children together, exact up to 100,000.
-fn visits_sum(image: &[u8], place: usize, count: usize, n: usize, table: &[usize; 256]) -> usize
-    requires { ⌜ (place + 2 * count < 18446744073709551615) × (n ≤ 256) × (NamesBelow (now image) place count n) × (Holds 100001 (λ k. visits (treeAt (now image) k)) n (now table)) × (count ≤ 16) ⌝ }
-    ensures { λ r. ⌜ (min 100001 r ≡ min 100001 (visitsAll (childTrees (now (image .entry)) place count))) × (r ≤ 100001 * count) ⌝ }
-{
     let mut sum = 0;
     let mut i = 0;
     while i < count {
         let child = word(image, place + 2 * i);
-        sum += table[child];
+        best = larger(best, depths[child]);
+        sum += visits[child];
         i += 1;
     }
-    sum
-}
-
-// The depth of node n, whose field stands at a place, or 25 where it is more; the table has the depths of the nodes before it.
-fn depth_of(image: &[u8], at: usize, n: usize, table: &[usize; 256]) -> usize
-    requires { ⌜ (Standing (now image) n at) × (Holds 25 (λ k. depth (treeAt (now image) k)) n (now table)) ⌝ }
-    ensures { λ r. ⌜ r ≡ min 25 (depth (treeAt (now (image .entry)) n)) ⌝ }
-{
-    let node = node_at(image, at);
-    match node {
-        Node::Plain(_) => 1,
-        Node::Bus(_) => 1,
-        Node::Sequence(c) => at_most(25, 1 + deepest_of(image, c.place, c.count, n, table)),
-        Node::Branch(c) => at_most(25, 1 + deepest_of(image, c.place, c.count, n, table)),
-        Node::Loop(l) => {
-            let body = l.body;
-            at_most(25, 1 + table[body])
-        }
+    Weight {
+        depth: best,
+        visits: sum,
     }
 }
 
-// The visits of node n, whose field stands at a place, or 100,001 where they are more; the table has those of the nodes before it.
-fn visits_of(image: &[u8], at: usize, n: usize, table: &[usize; 256]) -> usize
-    requires { ⌜ (Standing (now image) n at) × (Holds 100001 (λ k. visits (treeAt (now image) k)) n (now table)) ⌝ }
-    ensures { λ r. ⌜ r ≡ min 100001 (visits (treeAt (now (image .entry)) n)) ⌝ }
+// A node over children that weigh w together: one level deeper, and one visit more.
+fn above(w: Weight) -> Weight
+    requires { ⌜ (w .depth ≤ 25) × (w .visits ≤ 1000010000) ⌝ }
+    ensures { λ r. ⌜ (r .depth ≡ min 25 (1 + w .depth)) × (r .visits ≡ min 100001 (1 + w .visits)) ⌝ }
+{
+    Weight {
+        depth: at_most(25, 1 + w.depth),
+        visits: at_most(100001, 1 + w.visits),
+    }
+}
+
+// Depth and visits of node n, whose field stands at a place; the tables have those of the nodes before it.
+fn weight_of(
+    image: &[u8],
+    at: usize,
+    n: usize,
+    depths: &[usize; 256],
+    visits: &[usize; 256],
+) -> Weight
+    requires { ⌜ (Standing (now image) n at) × (Weighed (now image) n (now depths) (now visits)) ⌝ }
+    ensures { λ r. ⌜ Weighs (now (image .entry)) n r ⌝ }
 {
     let node = node_at(image, at);
     match node {
-        Node::Plain(_) => 1,
-        Node::Bus(_) => 1,
-        Node::Sequence(c) => at_most(100001, 1 + visits_sum(image, c.place, c.count, n, table)),
-        Node::Branch(c) => at_most(100001, 1 + visits_sum(image, c.place, c.count, n, table)),
+        Node::Plain(_) => above(Weight {
+            depth: 0,
+            visits: 0,
+        }),
+        Node::Bus(_) => above(Weight {
+            depth: 0,
+            visits: 0,
+        }),
+        Node::Sequence(c) => above(over_children(image, c.place, c.count, n, depths, visits)),
+        Node::Branch(c) => above(over_children(image, c.place, c.count, n, depths, visits)),
         Node::Loop(l) => {
             let body = l.body;
-            at_most(100001, 1 + l.greatest * table[body])
+            above(Weight {
+                depth: depths[body],
+                visits: l.greatest * visits[body],
+            })
         }
     }
 }
@@ -97,17 +101,16 @@ fn visits_of(image: &[u8], at: usize, n: usize, table: &[usize; 256]) -> usize
 // The entry's depth, or 25, and its visits, or 100,001.
 pub fn weights(image: &[u8], places: &[usize; 256], nodes: usize) -> Weight
     requires { ⌜ (1 ≤ nodes) × (Passed (now image) (nodes + 2)) × (Placed (now image) (nodes + 2) (now places)) ⌝ }
-    ensures { λ r. ⌜ (r .depth ≡ min 25 (depth (treeAt (now (image .entry)) (nodes - 1)))) × (r .visits ≡ min 100001 (visits (treeAt (now (image .entry)) (nodes - 1)))) ⌝ }
+    ensures { λ r. ⌜ Weighs (now (image .entry)) (nodes - 1) r ⌝ }
 {
     let mut depths = [0usize; 256];
     let mut visits = [0usize; 256];
     let mut n = 0;
     while n < nodes {
         let at = places[n];
-        let d = depth_of(image, at, n, &depths);
-        let v = visits_of(image, at, n, &visits);
-        depths[n] = d;
-        visits[n] = v;
+        let w = weight_of(image, at, n, &depths, &visits);
+        depths[n] = w.depth;
+        visits[n] = w.visits;
         n += 1;
     }
     let entry = nodes - 1;

@@ -28,7 +28,7 @@ unfolding wholeOf
 returns-2 c =
     let n = c .before .before .before .before .before .args .count in
     let q : n - 2 - 1 ≡ n - 3 = omega arith in
-    let d = rw q at (c .before .before .weights .ensures .0) in
+    let d = rw q at (c .before .before .weights .ensures .deep) in
     simp (le-ltb n 3 (c .before .before .before .if1 .left), lt-ltb 24 (depth (treeAt (c .before .before .before .before .before .args .image .now) (n - 3))) (omega (arith, d, c .if2 .taken)))
 
 returns-3 : tie.Need-returns-3
@@ -37,8 +37,8 @@ returns-3 c =
     let s = c .before .before .before .before .before .before .before .args .image .now in
     let n = c .before .before .before .before .before .before .before .args .count in
     let q : n - 2 - 1 ≡ n - 3 = omega arith in
-    let d = rw q at (c .before .before .before .before .weights .ensures .0) in
-    let v = rw q at (c .before .before .before .before .weights .ensures .1) in
+    let d = rw q at (c .before .before .before .before .weights .ensures .deep) in
+    let v = rw q at (c .before .before .before .before .weights .ensures .long) in
     simp (
       le-ltb n 3 (c .before .before .before .before .before .if1 .left),
       le-ltb 24 (depth (treeAt s (n - 3))) (omega (arith, d, c .before .before .if2 .left)),
@@ -60,8 +60,8 @@ returns-4 c =
     let s = c .before .before .before .before .before .before .before .before .before .args .image .now in
     let n = c .before .before .before .before .before .before .before .before .before .args .count in
     let q : n - 2 - 1 ≡ n - 3 = omega arith in
-    let d = rw q at (c .before .before .before .before .before .before .weights .ensures .0) in
-    let v = rw q at (c .before .before .before .before .before .before .weights .ensures .1) in
+    let d = rw q at (c .before .before .before .before .before .before .weights .ensures .deep) in
+    let v = rw q at (c .before .before .before .before .before .before .weights .ensures .long) in
     rw (c .before .bus-at .ensures .0, c .word .ensures .0)
     (simp (
       le-ltb n 3 (c .before .before .before .before .before .before .before .if1 .left),
