@@ -3,3 +3,4 @@ pub mod Parts
 pub mod Watching
 pub mod Children
 pub mod Descents
+mod Loops

@@ -1,29 +1,31 @@
 -- Sets that have become periodic: the same set again after c iterations, at the same cost each time. What is watched stays true from
 -- iteration to iteration.
 use mathlib.Core.Path.{_≡_, refl, sym, _∙_, ap, ap₂}
-use mathlib.Core.Bool.{Bool, false, _||_}
+use mathlib.Core.Bool.{Bool, true, false, _||_}
 use mathlib.Core.List.{List}
 use lib.ListN.{getD}
-use lib.Dec.{eqb}
-use borrow.Author.Tests.{eqb-true}
 use native.Mathlib.Omega.{arith}
-use native.Mathlib.Nat.{not-suc-le-zero, zero-mul, suc-mul, add-zero, zero-add}
-use native.Mathlib.Numerals.{add-one}
+use native.Mathlib.Nat.{le-refl, zero-mul, suc-mul, add-zero}
+use native.Mathlib.Decide.{ℕ-discrete}
 use Prim.Native.Nat.{ℕ, zero, suc, _+_, _-_, _*_, _≤_, _<_}
 use Rattle.runs.specs.Slots.{equal}
 use Rattle.runs.specs.Nodes.{Tree}
 use Rattle.runs.specs.Carried.{row, iterate}
 use Rattle.runs.specs.Figures.{cost, sum}
 use Rattle.runs.specs.Parts.{Unrolled}
-use Rattle.runs.proofs.Joins.{iterate-split, iterate-first, sum-same, sum-split}
+use Rattle.runs.proofs.Joins.{iterate-split, sum-same, sum-split}
 use Rattle.runs.proofs.Periodic.{Under, or-bounds, unrolled-skip as skip}
 use Rattle.bus.specs.declared.Bus.{Bus}
 use Rattle.bus.specs.Waits.{slotsOf}
 use Rattle.offsets.specs.declared.Set.{Set}
 use Rattle.offsets.specs.Sets.{value, has}
 use Rattle.exits.specs.Exits.{bitsOf, busPeriod}
-use Rattle.published.specs.declared.Watch.{Watch}
-use Rattle.published.specs.Steps.{bits, after, charge, Cyclic, Watches, WatchSmall, WatchedBy}
+use Rattle.cycles.specs.Cycles.{Seen}
+use Rattle.cycles.specs.declared.Watch.{Watch}
+use Rattle.cycles.proofs.Watching.{watches-next}
+use Rattle.published.specs.declared.Pass.{Pass}
+use Rattle.published.specs.declared.Kept.{Kept}
+use Rattle.published.specs.Steps.{bits, after, charge, Cyclic, State, state, next, charged, WatchedBy}
 
 -- sets with the same number have the same bits
 same-bits : (b : Bus) (s t : Set) → value s ≡ value t → bits b s ≡ bits b t
@@ -37,20 +39,6 @@ module _ (b : Bus) (x : Tree) where
   -- the cost of the iterations behind the first k
   charge-on : (C : List Bool) (k i : ℕ) → charge b x (iterate (after b x) k C) i ≡ charge b x C (k + i)
   charge-on C k i = ap (cost (equal (slotsOf b)) x) (sym (iterate-split (after b x) k i C))
-
-  pub cyclic-next : (c g : ℕ) (C : List Bool) → Cyclic b x c g C → Cyclic b x c g (after b x C)
-  unfolding iterate sum
-  cyclic-next c g C h = record {
-    again = sym (iterate-first (after b x) c C) ∙ ap (after b x) (h .again);
-    costs =
-        let shift : sum c (charge b x (after b x C)) ≡ sum c (λ i. charge b x C (1 + i)) = sum-same c _ _ (λ i l. charge-on C 1 i) in
-        let front : sum (1 + c) (charge b x C) ≡ sum 1 (charge b x C) + sum c (λ i. charge b x C (1 + i)) = sum-split 1 c (charge b x C) in
-        let back : sum (c + 1) (charge b x C) ≡ sum c (charge b x C) + sum 1 (λ i. charge b x C (c + i)) = sum-split c 1 (charge b x C) in
-        let order : 1 + c ≡ c + 1 = omega arith in
-        let turn : sum (1 + c) (charge b x C) ≡ sum (c + 1) (charge b x C) = ap (λ (n : ℕ). sum n (charge b x C)) order in
-        let same : charge b x C (c + 0) ≡ charge b x C 0 = rw add-zero (ap (cost (equal (slotsOf b)) x) (h .again)) in
-        omega (arith, shift, front, back, turn, same, h .costs);
-  }
 
   pub multiple : (c g : ℕ) (C : List Bool) → Cyclic b x c g C → (n : ℕ) → iterate (after b x) (n * c) C ≡ C
   unfolding iterate
@@ -81,90 +69,54 @@ module _ (b : Bus) (x : Tree) where
           ap (λ (n : ℕ). iterate (after b x) n C) (omega arith) ∙ iterate-split (after b x) c m C ∙ ap (iterate (after b x) m) (h .again) in
           rw e (or-bounds .same _)
 
--- a watch that has just begun
-pub fresh : (b : Bus) (x : Tree) (s : Set) (C : List Bool) (total n : ℕ) → C ≡ bits b s
-    → Watches b x C total (record { old = s; spent = total; gap = 0; span = n; cycle = 0; gain = 0 })
-unfolding iterate sum
-fresh b x s C total n e = record { past = e; paid = sym (add-zero total); cyclic = λ l. absurd (not-suc-le-zero l) }
+  -- ---- the set with the cost so far
+
+  commutes : (q : ℕ) (C : State) → next b x (charged q C) ≡ charged q (next b x C)
+  commutes q C = ap (λ (n : ℕ). state-of (after b x (C .set)) n) (order (C .total) q (cost (equal (slotsOf b)) x (C .set)))
+    where
+      state-of : List Bool → ℕ → State
+      state-of X n = record { set = X; total = n }
+
+      order : (m q c : ℕ) → m + q + c ≡ m + c + q
+      order m q c = omega arith
+
+  iterate-set : (n : ℕ) (C : State) → iterate (next b x) n C .set ≡ iterate (after b x) n (C .set)
+  unfolding iterate
+  iterate-set zero C = refl
+  iterate-set (suc n) C = ap (after b x) (iterate-set n C)
+
+  iterate-total : (n : ℕ) (C : State) → iterate (next b x) n C .total ≡ C .total + sum n (charge b x (C .set))
+  unfolding iterate sum
+  iterate-total zero C = sym (add-zero (C .total))
+  iterate-total (suc n) C =
+      omega (arith, iterate-total n C, ap (cost (equal (slotsOf b)) x) (iterate-set n C))
+
+  -- a cycle of both is a cycle of the set with its cost
+  pub cyclic-of : (c g : ℕ) (C : State) → iterate (next b x) c C ≡ charged g C → Cyclic b x c g (C .set)
+  cyclic-of c g C e = record {
+    again = sym (iterate-set c C) ∙ ap (λ (S : State). S .set) e;
+    costs = let t : iterate (next b x) c C .total ≡ C .total + g = ap (λ (S : State). S .total) e in omega (arith, t, iterate-total c C);
+  }
 
 -- ---- one more iteration
 
-module _ (cur : Set) (total : ℕ) (w : Watch) where
-  -- the set and the cost after one iteration more than `gap`
-  further : (b : Bus) (x : Tree) (C : List Bool) (before : ℕ) → Watches b x C before w → bits b cur ≡ after b x C
-      → bits b cur ≡ iterate (after b x) (w .gap + 1) (bits b (w .old))
-  unfolding iterate
-  further b x C before h e = rw add-one (e ∙ ap (after b x) (h .past))
-
-  paid-on : (b : Bus) (x : Tree) (C : List Bool) (before : ℕ) → Watches b x C before w → total ≡ before + cost (equal (slotsOf b)) x C
-      → total ≡ w .spent + sum (w .gap + 1) (charge b x (bits b (w .old)))
-  unfolding sum
-  paid-on b x C before h e =
-      rw add-one (omega (arith, e, h .paid, ap (cost (equal (slotsOf b)) x) (h .past)))
-
-  -- a cycle is known
-  pub watched-on : 1 ≤ w .cycle
-      → WatchedBy cur total w (record { old = w .old; spent = w .spent; gap = w .gap + 1; span = w .span; cycle = w .cycle; gain = w .gain })
-  watched-on pos = record {
-    small = λ done l h. record {
-      gap-most = omega (arith, h .gap-most);
-      span-most = h .span-most;
-      cycle-most = omega (arith, h .cycle-most);
-      gain-most = h .gain-most;
-    };
-    watches = λ b x C before h e g. record {
-      past = further b x C before h e;
-      paid = paid-on b x C before h g;
-      cyclic = λ l. rw e (cyclic-next b x (w .cycle) (w .gain) C (h .cyclic l));
-    };
-  }
-
-  -- a cycle is found
-  pub watched-found : total ≤ 6553500000 → value cur ≡ value (w .old)
-      → WatchedBy cur total w (record { old = w .old; spent = w .spent; gap = w .gap + 1; span = w .span; cycle = w .gap + 1; gain = total - w .spent })
-  watched-found few same = record {
-    small = λ done l h. record {
-      gap-most = omega (arith, h .gap-most);
-      span-most = h .span-most;
-      cycle-most = omega (arith, h .gap-most);
-      gain-most = omega arith;
-    };
-    watches = λ b x C before h e g.
-        let p = further b x C before h e in
-        let is = same-bits b cur (w .old) same in
-        record {
-          past = p;
-          paid = paid-on b x C before h g;
-          cyclic = λ l. record {
-            again = rw is (sym p ∙ is);
-            costs = rw is (omega (arith, paid-on b x C before h g));
-          };
-        };
-  }
-
-  -- the set now is kept instead
-  pub watched-anew : w .span ≤ w .gap + 1 → WatchedBy cur total w (record { old = cur; spent = total; gap = 0; span = 2 * w .span; cycle = 0; gain = 0 })
-  watched-anew long = record {
-    small = λ done l h. record {
-      gap-most = omega arith;
-      span-most = omega (arith, h .gap-most);
-      cycle-most = omega arith;
-      gain-most = omega arith;
-    };
-    watches = λ b x C before h e g. fresh b x cur (bits b cur) total (2 * w .span) refl;
-  }
-
-  pub watched-more : WatchedBy cur total w (record { old = w .old; spent = w .spent; gap = w .gap + 1; span = w .span; cycle = 0; gain = 0 })
-  watched-more = record {
-    small = λ done l h. record {
-      gap-most = omega (arith, h .gap-most);
-      span-most = h .span-most;
-      cycle-most = omega arith;
-      gain-most = omega arith;
-    };
-    watches = λ b x C before h e g. record {
-      past = further b x C before h e;
-      paid = paid-on b x C before h g;
-      cyclic = λ l. absurd (not-suc-le-zero l);
-    };
-  }
+-- what is kept then is where the loop stands or what was kept, by the gap
+pub watched-by : (p : Pass) (kept kept' : Kept) (w : Watch) (same : Bool) (v : Watch) → kept .spent ≤ p .cost → Seen w same (p .cost - kept .spent) v
+    → (same ≡ true → value (p .cur) ≡ value (kept .set)) → (v .gap ≡ 0 → kept' ≡ record { set = p .cur; spent = p .cost }) → (¬ (v .gap ≡ 0) → kept' ≡ kept)
+    → WatchedBy p kept w (record { pass = p; kept = kept'; watch = v })
+watched-by p kept kept' w same v less seen is renewed stays = record {
+  pass = refl;
+  counts = seen .counts;
+  small = seen .small;
+  off = seen .off;
+  spent = elim (ℕ-discrete (v .gap) 0) [ yes e ↦ rw (renewed e) (le-refl (p .cost)) | no n ↦ rw (stays n) less ];
+  watches = λ b x C h s.
+      watches-next (next b x) charged (commutes b x) w same (p .cost - kept .spent) v seen C (state b (kept .set) (kept .spent)) (state b (p .cur) (p .cost))
+      (state b (kept' .set) (kept' .spent)) h s
+      (λ t. let total : p .cost ≡ kept .spent + (p .cost - kept .spent) = omega arith in
+      ap₂ (λ (X : List Bool) (n : ℕ). both X n) (same-bits b (p .cur) (kept .set) (is t)) total)
+      (λ e. ap (λ (y : Kept). state b (y .set) (y .spent)) (renewed e)) (λ n. ap (λ (y : Kept). state b (y .set) (y .spent)) (stays n));
+}
+  where
+    both : List Bool → ℕ → State
+    both X n = record { set = X; total = n }

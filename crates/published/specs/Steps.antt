@@ -3,7 +3,7 @@ use mathlib.Core.Path.{_≡_}
 use mathlib.Core.Bool.{Bool, false, _||_}
 use mathlib.Core.List.{List}
 use lib.ListN.{getD}
-use Prim.Native.Nat.{ℕ, _+_, _*_, _≤_, _<_}
+use Prim.Native.Nat.{ℕ, _+_, _-_, _*_, _≤_, _<_}
 use Rattle.runs.specs.Slots.{equal}
 use Rattle.runs.specs.Clock.{offsets}
 use Rattle.runs.specs.Nodes.{Tree, Trees, visits, visitsAll}
@@ -16,10 +16,13 @@ use Rattle.offsets.specs.declared.Set.{Set}
 use Rattle.image.specs.Nodes.{treeAt, childTrees}
 use Rattle.image.specs.Walks.{Walkable, Named}
 use Rattle.image.specs.declared.Task.{Task}
+use Rattle.image.specs.declared.nodes.Loop.{Loop}
+use Rattle.cycles.specs.Cycles.{Small, Jumps, Watches}
+use Rattle.cycles.specs.declared.Watch.{Watch}
 use Rattle.exits.specs.Exits.{bitsOf, busPeriod, Within, Exited}
 use Rattle.published.specs.declared.Outcome.{Outcome}
 use Rattle.published.specs.declared.Pass.{Pass}
-use Rattle.published.specs.declared.Watch.{Watch}
+use Rattle.published.specs.declared.Kept.{Kept}
 use Rattle.published.specs.declared.Turns.{Turns}
 
 -- a set's bits on a bus; the bits after a tree, after the trees in order, and after any one of them at an offset
@@ -88,7 +91,30 @@ pub record UnrolledAt (b : Bus) (body : Tree) (least done left : ℕ) (p r : Pas
   pub within-out : Within (busPeriod b) (r .out)
   pub costs : r .cost ≡ p .cost + sum left (λ i. cost (equal (slotsOf b)) body (iterate (after b body) i (bits b (p .cur))))
 
+-- the walk of a loop
+pub record ReadyRepeat (s : List ℕ) (k : Task) (places : List ℕ) (node : ℕ) (l : Loop) (x : Set) : Type 0 where
+  pub walkable : Walkable s k places
+  pub low : node ≤ k .entry
+  pub below : l .body < node
+  pub many : l .greatest ≤ 10000
+  pub few : l .greatest * visits (treeAt s (l .body)) ≤ 100000
+  pub within : Within (busPeriod (k .bus)) x
+
 -- ---- loops that have become periodic
+
+-- the bits of a set and the cost so far; what an iteration makes of them; and g more cost
+pub record State : Type 0 where
+  pub set : List Bool
+  pub total : ℕ
+
+abbrev pub state : Bus → Set → ℕ → State
+state b s n = record { set = bits b s; total = n }
+
+abbrev pub next : Bus → Tree → State → State
+next b x c = record { set = after b x (c .set); total = c .total + cost (equal (slotsOf b)) x (c .set) }
+
+abbrev pub charged : ℕ → State → State
+charged g c = record { set = c .set; total = c .total + g }
 
 -- what iteration i from the set C on costs, on a bus
 abbrev pub charge : Bus → Tree → List Bool → ℕ → ℕ
@@ -99,50 +125,48 @@ pub record Cyclic (b : Bus) (x : Tree) (c g : ℕ) (C : List Bool) : Type 0 wher
   pub again : iterate (after b x) c C ≡ C
   pub costs : sum c (charge b x C) ≡ g
 
--- what is watched is true of the set C now and the cost so far
-pub record Watches (b : Bus) (x : Tree) (C : List Bool) (total : ℕ) (w : Watch) : Type 0 where
-  pub past : C ≡ iterate (after b x) (w .gap) (bits b (w .old))
-  pub paid : total ≡ w .spent + sum (w .gap) (charge b x (bits b (w .old)))
-  pub cyclic : 1 ≤ w .cycle → Cyclic b x (w .cycle) (w .gain) C
+-- what is seen of a loop is true of where it stands now and of what is kept
+abbrev pub WatchesAt : Bus → Tree → Pass → Kept → Watch → Type 0
+WatchesAt b x p kept w = Watches (next b x) charged (state b (p .cur) (p .cost)) (state b (kept .set) (kept .spent)) w
 
--- its numbers are small after `done` iterations
-pub record WatchSmall (done : ℕ) (w : Watch) : Type 0 where
-  pub gap-most : w .gap ≤ done
-  pub span-most : w .span ≤ 32768
-  pub cycle-most : w .cycle ≤ done
-  pub gain-most : w .gain ≤ 6553500000
+-- one more iteration, which led to p, is seen, on every bus and for every tree
+pub record WatchedBy (p : Pass) (kept : Kept) (w : Watch) (r : Turns) : Type 0 where
+  pub pass : r .pass ≡ p
+  pub counts : r .watch .done ≡ w .done + 1
+  pub small : Small (r .watch)
+  pub off : w .span ≡ 0 → (r .watch .span ≡ 0) × (r .watch .cycle ≡ 0)
+  pub spent : r .kept .spent ≤ p .cost
+  pub watches : (b : Bus) (x : Tree) (C : State) → Watches (next b x) charged C (state b (kept .set) (kept .spent)) w
+      → state b (p .cur) (p .cost) ≡ next b x C → WatchesAt b x p (r .kept) (r .watch)
 
--- one more iteration, on every bus and for every tree
-pub record WatchedBy (cur : Set) (total : ℕ) (w r : Watch) : Type 0 where
-  pub small : (done : ℕ) → done ≤ 9999 → WatchSmall done w → WatchSmall (done + 1) r
-  pub watches : (b : Bus) (x : Tree) (C : List Bool) (before : ℕ) → Watches b x C before w → bits b cur ≡ after b x C
-      → total ≡ before + cost (equal (slotsOf b)) x C → Watches b x (bits b cur) total r
+-- n whole cycles of `left` iterations are skipped, and nothing is looked for any more
+pub record SkippedBy (left : ℕ) (t r : Turns) : Type 0 where
+  pub cur : r .pass .cur ≡ t .pass .cur
+  pub out : r .pass .out ≡ t .pass .out
+  pub kept : r .kept ≡ t .kept
+  pub skips : (n : ℕ) × Jumps (t .watch .cycle) left n × (r .watch .done ≡ t .watch .done + n * t .watch .cycle) × (r .pass .cost ≡ t .pass .cost + n * t .watch .gain)
+  pub off : (r .watch .gap ≡ 0) × (r .watch .span ≡ 0) × (r .watch .cycle ≡ 0) × (r .watch .gain ≡ 0)
 
--- n whole cycles are skipped
-pub record SkippedBy (p : Pass) (w : Watch) (n : ℕ) (r : Turns) : Type 0 where
-  pub cur : r .pass .cur ≡ p .cur
-  pub out : r .pass .out ≡ p .out
-  pub costs : r .pass .cost ≡ p .cost + n * w .gain
-  pub old : r .watch .old ≡ p .cur
-  pub spent : r .watch .spent ≡ r .pass .cost
-  pub gap : r .watch .gap ≡ 0
-  pub span : r .watch .span ≡ w .span
-  pub cycle : r .watch .cycle ≡ w .cycle
-  pub gain : r .watch .gain ≡ w .gain
-
--- `left` iterations of a loop's body, `done` being done
-pub record ReadyLoop (s : List ℕ) (k : Task) (places : List ℕ) (body done left : ℕ) (p : Pass) (w : Watch) : Type 0 where
+-- `left` iterations of a loop's body are to come
+pub record ReadyLoop (s : List ℕ) (k : Task) (places : List ℕ) (body left : ℕ) (t : Turns) : Type 0 where
   pub walkable : Walkable s k places
   pub low : body ≤ k .entry
-  pub many : done + left ≤ 10000
-  pub few : p .cost + 65535 * (left * visits (treeAt s body)) ≤ 6553500000
-  pub within : Within (busPeriod (k .bus)) (p .cur)
-  pub within-out : Within (busPeriod (k .bus)) (p .out)
-  pub small : WatchSmall done w
-  pub watches : Watches (k .bus) (treeAt s body) (bits (k .bus) (p .cur)) (p .cost) w
+  pub many : t .watch .done + left ≤ 10000
+  pub few : t .pass .cost + 65535 * (left * visits (treeAt s body)) ≤ 6553500000
+  pub within : Within (busPeriod (k .bus)) (t .pass .cur)
+  pub within-out : Within (busPeriod (k .bus)) (t .pass .out)
+  pub spent : t .kept .spent ≤ t .pass .cost
+  pub small : Small (t .watch)
+  pub watches : WatchesAt (k .bus) (treeAt s body) (t .pass) (t .kept) (t .watch)
 
--- what they leave
-pub record Unrolls (b : Bus) (body : Tree) (least done left : ℕ) (p : Pass) (r : Turns) : Type 0 where
-  pub unrolled : UnrolledAt b body least done left p (r .pass)
-  pub small : WatchSmall (done + left) (r .watch)
-  pub watches : Watches b body (bits b (r .pass .cur)) (r .pass .cost) (r .watch)
+-- those that were done: all, or, once a cycle is found, some of them
+pub record Unrolls (b : Bus) (body : Tree) (least left : ℕ) (t r : Turns) : Type 0 where
+  pub more : t .watch .done ≤ r .watch .done
+  pub most : r .watch .done ≤ t .watch .done + left
+  pub ends : r .watch .cycle ≡ 0 → r .watch .done ≡ t .watch .done + left
+  pub keeps : r .watch .cycle ≡ 0 → t .watch .cycle ≡ 0
+  pub off : t .watch .span ≡ 0 → t .watch .cycle ≡ 0 → (r .watch .span ≡ 0) × (r .watch .cycle ≡ 0)
+  pub unrolled : UnrolledAt b body least (t .watch .done) (r .watch .done - t .watch .done) (t .pass) (r .pass)
+  pub spent : r .kept .spent ≤ r .pass .cost
+  pub small : Small (r .watch)
+  pub watches : WatchesAt b body (r .pass) (r .kept) (r .watch)

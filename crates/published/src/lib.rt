@@ -3,16 +3,19 @@
 // Promise: `walk` gives the exits and the cost that `exits` and `cost` of crates/runs/specs/Figures.antt name for the node.
 // Definitions: specs/Steps.antt, over crates/runs/specs and crates/exits/specs/Exits.antt.
 // The node number falls at each descent; where a loop is unrolled, the pair of node number and iterations left falls: the iterations
-// are taken in two halves, so the stack grows with the logarithm of the count. A loop whose exit sets have become periodic (after `cycle`
-// iterations the set is the same again, and they cost `gain`) is not walked to its end: whole cycles are skipped.
+// are taken in two halves, so the stack grows with the logarithm of the count.
+// A loop whose exit sets have become periodic (after `cycle` iterations the set is the same again, and they cost `gain`) is not walked to its
+// end: the unroller stops there, whole cycles are skipped, and the rest is walked.
 ghost use mathlib.Core.Path.{_≡_};
 ghost use Prim.Native.Nat.{ℕ, _+_, _≤_, max};
 ghost use Rattle.runs.specs.Nodes.{Tree};
 ghost use Rattle.bus.specs.declared.Bus.{Bus};
 ghost use Rattle.image.specs.Nodes.{treeAt, childTrees, kindMeant};
 ghost use Rattle.exits.specs.Exits.{PlainReady, BusReady, busPeriod};
-ghost use Rattle.published.specs.Steps.{Ready, ReadyAll, ReadyLoop, Published, PublishedAll, PublishedAny, BegunAt, TurnedAt, WatchSmall, WatchedBy, SkippedBy, Unrolls};
+ghost use Rattle.cycles.specs.Cycles.{Small};
+ghost use Rattle.published.specs.Steps.{Ready, ReadyAll, ReadyRepeat, ReadyLoop, Published, PublishedAll, PublishedAny, BegunAt, TurnedAt, WatchedBy, SkippedBy, Unrolls};
 use bus::Bus;
+use cycles::Watch;
 use image::Task;
 use image::nodes::BusBlock;
 use image::nodes::Children;
@@ -35,20 +38,16 @@ pub struct Pass {
     pub cost: u64,
 }
 
-// What was seen of the iterations: the offsets `gap` iterations ago and the cost then, which are kept for `span` iterations; and once a
-// cycle is found, its length and its cost (a length of 0: none is found yet).
-pub struct Watch {
-    pub old: Set,
+// What is kept of an earlier iteration: the offsets after it, and the cost until then.
+pub struct Kept {
+    pub set: Set,
     pub spent: u64,
-    pub gap: usize,
-    pub span: usize,
-    pub cycle: usize,
-    pub gain: u64,
 }
 
-// Where an unrolled part of a loop leaves it.
+// A loop on the way: where it stands, what is kept, and what is seen of its iterations.
 pub struct Turns {
     pub pass: Pass,
+    pub kept: Kept,
     pub watch: Watch,
 }
 
@@ -122,70 +121,57 @@ fn joined(least: usize, done: usize, p: Pass, n: Outcome) -> Pass
     }
 }
 
-// What is known after one more iteration, which left the offsets `cur` and the cost so far.
-fn watched(cur: Set, cost: u64, w: Watch) -> Watch
-    requires { ⌜ (WatchSmall 9999 w) × (w .spent ≤ cost) × (cost ≤ 6553500000) ⌝ }
-    ensures { λ r. ⌜ WatchedBy cur cost w r ⌝ }
+// What is seen after one more iteration, which led to p: a cycle where its offsets are the kept ones.
+fn watched(p: Pass, kept: Kept, w: Watch) -> Turns
+    requires { ⌜ (w .done ≤ 9999) × Small w × (kept .spent ≤ p .cost) × (p .cost ≤ 6553500000) ⌝ }
+    ensures { λ r. ⌜ WatchedBy p kept w r ⌝ }
 {
-    let old = w.old;
-    let gap = w.gap + 1;
-    if 0 < w.cycle {
-        return Watch {
-            old,
-            spent: w.spent,
-            gap,
-            span: w.span,
-            cycle: w.cycle,
-            gain: w.gain,
+    let cur = p.cur;
+    let cost = p.cost;
+    let gain = cost - kept.spent;
+    let same = offsets::same(cur, kept.set);
+    let watch = cycles::seen(w, same, gain as usize);
+    if watch.gap == 0 {
+        return Turns {
+            pass: p,
+            kept: Kept {
+                set: cur,
+                spent: cost,
+            },
+            watch,
         };
     }
-    if offsets::same(cur, old) {
-        return Watch {
-            old,
-            spent: w.spent,
-            gap,
-            span: w.span,
-            cycle: gap,
-            gain: cost - w.spent,
-        };
-    }
-    if w.span <= gap {
-        return Watch {
-            old: cur,
-            spent: cost,
-            gap: 0,
-            span: 2 * w.span,
-            cycle: 0,
-            gain: 0,
-        };
-    }
-    Watch {
-        old,
-        spent: w.spent,
-        gap,
-        span: w.span,
-        cycle: 0,
-        gain: 0,
+    Turns {
+        pass: p,
+        kept,
+        watch,
     }
 }
 
-// The loop after n more cycles.
-fn skipped(p: Pass, w: Watch, n: usize) -> Turns
-    requires { ⌜ (n ≤ 10000) × (p .cost ≤ 6553500000) × (w .gain ≤ 6553500000) ⌝ }
-    ensures { λ r. ⌜ SkippedBy p w n r ⌝ }
+// Of the `left` iterations to come whole cycles are skipped; what is left then is only walked.
+fn skipped(left: usize, t: Turns) -> Turns
+    requires { ⌜ (t .watch .done + left ≤ 10000) × Small (t .watch) × (t .pass .cost ≤ 6553500000) ⌝ }
+    ensures { λ r. ⌜ SkippedBy left t r ⌝ }
 {
+    let w = t.watch;
+    let p = t.pass;
+    let kept = t.kept;
+    let n = cycles::jumps(w.cycle, left);
     let cur = p.cur;
     let out = p.out;
-    let cost = p.cost + n as u64 * w.gain;
     Turns {
-        pass: Pass { cur, out, cost },
+        pass: Pass {
+            cur,
+            out,
+            cost: p.cost + (n * w.gain) as u64,
+        },
+        kept,
         watch: Watch {
-            old: cur,
-            spent: cost,
+            done: w.done + n * w.cycle,
             gap: 0,
-            span: w.span,
-            cycle: w.cycle,
-            gain: w.gain,
+            span: 0,
+            cycle: 0,
+            gain: 0,
         },
     }
 }
@@ -209,34 +195,7 @@ pub fn walk(image: &[u8], places: &[usize; 256], k: Task, node: usize, s: Set) -
         Node::Bus(x) => block_outcome(b, x, s),
         Node::Sequence(c) => sequence(image, places, k, node, c, s),
         Node::Branch(c) => branch(image, places, k, node, c, s),
-        Node::Loop(l) => {
-            let first = before_first(l.least, s);
-            let watch = Watch {
-                old: s,
-                spent: 0,
-                gap: 0,
-                span: 1,
-                cycle: 0,
-                gain: 0,
-            };
-            let all = unroll(
-                image,
-                places,
-                k,
-                l.body,
-                l.least,
-                0,
-                l.greatest,
-                first,
-                watch,
-            );
-            let pass = all.pass;
-            let out = pass.out;
-            Outcome {
-                cost: pass.cost,
-                exits: out,
-            }
-        }
+        Node::Loop(l) => repeat(image, places, k, node, l, s),
     }
 }
 
@@ -287,62 +246,63 @@ fn branch(image: &[u8], places: &[usize; 256], k: Task, node: usize, c: Children
     Outcome { cost, exits: out }
 }
 
-// `left` iterations more: none, whole cycles skipped, one, or two halves.
+// A loop: unrolled until a cycle is found or all is done, whole cycles skipped, and the rest unrolled.
+fn repeat(image: &[u8], places: &[usize; 256], k: Task, node: usize, l: Loop, s: Set) -> Outcome
+    requires { ⌜ ReadyRepeat (now image) k (now places) node l s ⌝ }
+    ensures { λ r. ⌜ Published (k .bus) (Tree.loop (l .least) (l .greatest) (treeAt (now (image .entry)) (l .body))) s r ⌝ }
+{
+    let begun = Turns {
+        pass: before_first(l.least, s),
+        kept: Kept { set: s, spent: 0 },
+        watch: Watch {
+            done: 0,
+            gap: 0,
+            span: 1,
+            cycle: 0,
+            gain: 0,
+        },
+    };
+    let seen = unroll(image, places, k, l.body, l.least, l.greatest, begun);
+    let w = seen.watch;
+    let rest = skipped(l.greatest - w.done, seen);
+    let v = rest.watch;
+    let all = unroll(image, places, k, l.body, l.least, l.greatest - v.done, rest);
+    let pass = all.pass;
+    let exits = pass.out;
+    Outcome {
+        cost: pass.cost,
+        exits,
+    }
+}
+
+// `left` iterations more, as two halves; none once a cycle is found.
 fn unroll(
     image: &[u8],
     places: &[usize; 256],
     k: Task,
     body: usize,
     least: usize,
-    done: usize,
     left: usize,
-    p: Pass,
-    w: Watch,
+    t: Turns,
 ) -> Turns
-    requires { ⌜ ReadyLoop (now image) k (now places) body done left p w ⌝ }
-    ensures { λ r. ⌜ Unrolls (k .bus) (treeAt (now (image .entry)) body) least done left p r ⌝ }
+    requires { ⌜ ReadyLoop (now image) k (now places) body left t ⌝ }
+    ensures { λ r. ⌜ Unrolls (k .bus) (treeAt (now (image .entry)) body) least left t r ⌝ }
 {
+    let w = t.watch;
     if left == 0 {
-        return Turns { pass: p, watch: w };
+        return t;
     }
-    let n = cycles::jumps(w.cycle, left);
-    if 0 < n {
-        let s = skipped(p, w, n);
-        let pass = s.pass;
-        let watch = s.watch;
-        let skip = n * w.cycle;
-        return unroll(
-            image,
-            places,
-            k,
-            body,
-            least,
-            done + skip,
-            left - skip,
-            pass,
-            watch,
-        );
+    if 0 < w.cycle {
+        return t;
     }
     if left == 1 {
+        let p = t.pass;
+        let kept = t.kept;
         let cur = p.cur;
         let next = walk(image, places, k, body, cur);
-        let pass = joined(least, done, p, next);
-        let watch = watched(next.exits, pass.cost, w);
-        return Turns { pass, watch };
+        return watched(joined(least, w.done, p, next), kept, w);
     }
     let half = left / 2;
-    let a = unroll(image, places, k, body, least, done, half, p, w);
-    let pass = a.pass;
-    let watch = a.watch;
-    unroll(
-        image,
-        places,
-        k,
-        body,
-        least,
-        done + half,
-        left - half,
-        pass,
-        watch,
-    )
+    let a = unroll(image, places, k, body, least, half, t);
+    unroll(image, places, k, body, least, left - half, a)
 }

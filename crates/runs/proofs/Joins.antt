@@ -58,6 +58,11 @@ unfolding iterate
 iterate-split f h zero a = rw add-zero
 iterate-split f h (suc k) a = rw add-suc (ap f (iterate-split f h k a))
 
+pub iterate-swap : {A : Type 0} (f g : A → A) → ((a : A) → f (g a) ≡ g (f a)) → (k : ℕ) (a : A) → iterate f k (g a) ≡ g (iterate f k a)
+unfolding iterate
+iterate-swap f g h zero a = refl
+iterate-swap f g h (suc k) a = ap f (iterate-swap f g h k a) ∙ h (iterate f k a)
+
 -- ---- rows
 
 pub row-same : {A : Type 0} (n : ℕ) (f g : ℕ → A) → ((o : ℕ) → o < n → f o ≡ g o) → row n f ≡ row n g

@@ -10,7 +10,7 @@ use Rattle.runs.specs.Slots.{periodOf}
 use Rattle.runs.specs.Nodes.{Tree, visits}
 use Rattle.runs.specs.Carried.{iterate}
 use Rattle.runs.specs.Figures.{Time, longer}
-use Rattle.runs.specs.Parts.{Unrolled, shifted, Cyclic}
+use Rattle.runs.specs.Parts.{Unrolled, shifted}
 use Rattle.runs.proofs.Cases.{split}
 use Rattle.runs.proofs.Joins.{longer-joins}
 use Rattle.runs.proofs.Loops.{unrolled-none, unrolled-one, unrolled-both}
@@ -24,11 +24,12 @@ use Rattle.image.specs.declared.nodes.Loop.{Loop}
 use Rattle.image.proofs.Walks.{valid-at}
 use Rattle.times.specs.Arrays.{tableOf, Stepped, Shifted, Fits}
 use Rattle.cycles.specs.Cycles.{Jumps}
-use Rattle.tight.specs.declared.Watch.{Watch}
-use Rattle.tight.specs.Steps.{table, after, Roomy, Walked, Ready, ReadyRepeat, ReadyLoop, BegunAt, TurnedAt, UnrolledAt, Watches, Small, WatchedBy, SkippedBy, Unrolls}
+use Rattle.cycles.specs.declared.Watch.{Watch}
+use Rattle.cycles.proofs.Watching.{whole}
+use Rattle.tight.specs.Steps.{table, after, Roomy, Walked, Ready, ReadyRepeat, ReadyLoop, BegunAt, TurnedAt, UnrolledAt, WatchedBy, SkippedBy, Unrolls}
 use Rattle.tight.proofs.Rooms.{room-less, room-fits, room-times}
 use Rattle.tight.proofs.Parts.{as-loop}
-use Rattle.tight.proofs.Watching.{commutes, whole}
+use Rattle.tight.proofs.Watching.{commutes}
 
 -- ---- parts of an unrolled loop
 

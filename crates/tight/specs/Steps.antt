@@ -7,9 +7,9 @@ use Prim.Native.Nat.{ℕ, _+_, _-_, _*_, _≤_, _<_}
 use Rattle.runs.specs.Slots.{periodOf, equal}
 use Rattle.runs.specs.Clock.{offsets}
 use Rattle.runs.specs.Nodes.{Tree, Trees, visits, visitsAll}
-use Rattle.runs.specs.Carried.{iterate, carriedAll, carriedAny}
+use Rattle.runs.specs.Carried.{carriedAll, carriedAny}
 use Rattle.runs.specs.Figures.{Time, longer, later, times}
-use Rattle.runs.specs.Parts.{Begun, Turned, Unrolled, Cyclic}
+use Rattle.runs.specs.Parts.{Begun, Turned, Unrolled, shifted}
 use Rattle.bus.specs.declared.Bus.{Bus}
 use Rattle.bus.specs.Waits.{slotsOf}
 use Rattle.image.specs.Nodes.{treeAt, childTrees}
@@ -17,8 +17,8 @@ use Rattle.image.specs.Walks.{Walkable, Named}
 use Rattle.image.specs.declared.Task.{Task}
 use Rattle.image.specs.declared.nodes.Loop.{Loop}
 use Rattle.times.specs.Arrays.{tableOf, Stepped, Shifted}
-use Rattle.cycles.specs.Cycles.{Jumps}
-use Rattle.tight.specs.declared.Watch.{Watch}
+use Rattle.cycles.specs.Cycles.{Small, Jumps, Watches}
+use Rattle.cycles.specs.declared.Watch.{Watch}
 
 -- an array's table on a bus; the table after a tree
 abbrev pub table : Bus → List ℕ → List Time
@@ -82,26 +82,17 @@ abbrev pub UnrolledAt : Bus → Tree → ℕ → ℕ → ℕ → List ℕ → Li
 UnrolledAt b body least done n cur out cur' out' =
     Unrolled none longer (periodOf (slotsOf b)) (after b body) least done n (table b cur) (table b out) (table b cur') (table b out')
 
--- what is seen of a loop is true of the table now: it is `gap` iterations behind the kept one, so long as any is kept; and a cycle that is
--- found leads to the same times, each `gain` cycles later
-pub record Watches (b : Bus) (x : Tree) (cur old : List ℕ) (w : Watch) : Type 0 where
-  pub past : 1 ≤ w .span → table b cur ≡ iterate (after b x) (w .gap) (table b old)
-  pub cyclic : 1 ≤ w .cycle → Cyclic (after b x) (w .cycle) (w .gain) (table b cur)
-
--- its numbers are small
-pub record Small (w : Watch) : Type 0 where
-  pub gap-most : w .gap ≤ w .done
-  pub span-most : w .span ≤ 32768
-  pub cycle-most : w .cycle ≤ w .done
-  pub gain-most : w .gain ≤ 6553500000
+-- what is seen of a loop is true of the table now and of the kept one
+abbrev pub WatchesAt : Bus → Tree → List ℕ → List ℕ → Watch → Type 0
+WatchesAt b x cur old w = Watches (after b x) shifted (table b cur) (table b old) w
 
 -- one more iteration, which led to `cur`, is seen, on every bus of the period P and for every tree
 pub record WatchedBy (P : ℕ) (cur old : List ℕ) (w : Watch) (old' : List ℕ) (r : Watch) : Type 0 where
   pub counts : r .done ≡ w .done + 1
   pub small : Small r
   pub off : w .span ≡ 0 → (r .span ≡ 0) × (r .cycle ≡ 0)
-  pub watches : (b : Bus) (x : Tree) → periodOf (slotsOf b) ≡ P → (before : List ℕ) → Watches b x before old w → Stepped b x before cur
-      → Watches b x cur old' r
+  pub watches : (b : Bus) (x : Tree) → periodOf (slotsOf b) ≡ P → (before : List ℕ) → WatchesAt b x before old w → Stepped b x before cur
+      → WatchesAt b x cur old' r
 
 -- n whole cycles of `left` iterations are skipped, and nothing is looked for any more
 pub record SkippedBy (P left : ℕ) (w : Watch) (cur cur' : List ℕ) (r : Watch) : Type 0 where
@@ -118,7 +109,7 @@ pub record ReadyLoop (s : List ℕ) (k : Task) (places : List ℕ) (body left : 
   pub size-out : length out ≡ 256
   pub room : Roomy (k .bus) (65535 * (left * visits (treeAt s body))) (table (k .bus) cur)
   pub small : Small w
-  pub watches : Watches (k .bus) (treeAt s body) cur old w
+  pub watches : WatchesAt (k .bus) (treeAt s body) cur old w
 
 -- those that were done: all, or, once a cycle is found, some of them
 pub record Unrolls (b : Bus) (body : Tree) (least left : ℕ) (w : Watch) (cur out : List ℕ) (r : Watch) (cur' out' old' : List ℕ) : Type 0 where
@@ -131,7 +122,7 @@ pub record Unrolls (b : Bus) (body : Tree) (least left : ℕ) (w : Watch) (cur o
   pub size-out : length out' ≡ 256
   pub unrolled : UnrolledAt b body least (w .done) (r .done - w .done) cur out cur' out'
   pub small : Small r
-  pub watches : Watches b body cur' old' r
+  pub watches : WatchesAt b body cur' old' r
 
 -- an array that holds at each offset what the arms of a branch join there
 abbrev pub Branched : Bus → Trees → List ℕ → List ℕ → Type 0

@@ -15,8 +15,10 @@ ghost use Rattle.runs.specs.Nodes.{Tree};
 ghost use Rattle.runs.specs.Slots.{periodOf};
 ghost use Rattle.bus.specs.Waits.{slotsOf};
 ghost use Rattle.bus.specs.declared.Bus.{Bus};
-ghost use Rattle.tight.specs.Steps.{Walked, Ready, ReadyAll, ReadyRepeat, ReadyLoop, BegunAt, TurnedAt, Small, WatchedBy, SkippedBy, Unrolls, Branched, afterAll, table};
+ghost use Rattle.cycles.specs.Cycles.{Small};
+ghost use Rattle.tight.specs.Steps.{Walked, Ready, ReadyAll, ReadyRepeat, ReadyLoop, BegunAt, TurnedAt, WatchedBy, SkippedBy, Unrolls, Branched, afterAll, table};
 use bus::Bus;
+use cycles::Watch;
 use image::Task;
 use image::nodes::BusBlock;
 use image::nodes::Children;
@@ -24,16 +26,6 @@ use image::nodes::Kind;
 use image::nodes::Loop;
 use image::nodes::Node;
 use image::nodes::Plain;
-
-// What is seen of a loop: how many iterations are done; that the table now is `gap` iterations behind a kept one, which is kept for `span`
-// iterations (0: none is kept); and once a cycle is found, its length and its gain (a length of 0: none is found).
-pub struct Watch {
-    pub done: usize,
-    pub gap: usize,
-    pub span: usize,
-    pub cycle: usize,
-    pub gain: usize,
-}
 
 // The step of a plain block.
 fn plain_block(b: Bus, p: Plain, t: &mut [u64; 256])
@@ -83,51 +75,18 @@ fn joined(least: usize, done: usize, next: &[u64; 256], out: &mut [u64; 256])
     }
 }
 
-// What is seen after one more iteration, which left the times `cur`.
+// What is seen after one more iteration, which left the times `cur`: a cycle where these are the kept ones, all later by one gain.
 fn watched(period: usize, cur: &[u64; 256], old: &mut [u64; 256], w: Watch) -> Watch
     requires { ⌜ (period ≤ 256) × (w .done ≤ 9999) × Small w ⌝ }
     ensures { λ r. ⌜ WatchedBy period (now (cur .entry)) (now (old .entry)) w (now (old .exit)) r ⌝ }
 {
-    let done = w.done + 1;
-    let gap = w.gap + 1;
-    if w.span == 0 {
-        return Watch {
-            done,
-            gap: 0,
-            span: 0,
-            cycle: 0,
-            gain: 0,
-        };
-    }
     let gain = times::rise(old, cur, period);
-    if gain <= 6553500000 {
-        if times::is_later(old, cur, period, gain) {
-            return Watch {
-                done,
-                gap,
-                span: w.span,
-                cycle: gap,
-                gain: gain as usize,
-            };
-        }
-    }
-    if w.span <= gap {
+    let same = times::is_later(old, cur, period, gain);
+    let r = cycles::seen(w, same, gain);
+    if r.gap == 0 {
         *old = *cur;
-        return Watch {
-            done,
-            gap: 0,
-            span: 2 * w.span,
-            cycle: 0,
-            gain: 0,
-        };
     }
-    Watch {
-        done,
-        gap,
-        span: w.span,
-        cycle: 0,
-        gain: 0,
-    }
+    r
 }
 
 // Of the `left` iterations to come whole cycles are skipped; what is left then is only walked.

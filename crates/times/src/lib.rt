@@ -88,25 +88,36 @@ pub fn longest(t: [u64; 256], period: usize) -> u64
 
 // ---- a table with more cycles at every time
 
-// By how much b's time is above a's at the first offset that has one in a, or 0: what `is_later` is tried with. A guess promises nothing.
-pub fn rise(a: &[u64; 256], b: &[u64; 256], period: usize) -> u64
+// By how much b's time is above a's at the first offset that has one in a, or 0: what `is_later` is tried with. A guess promises only that it
+// is no more than the largest figure of an accepted image.
+pub fn rise(a: &[u64; 256], b: &[u64; 256], period: usize) -> usize
     requires { ⌜ period ≤ 256 ⌝ }
+    ensures { λ r. ⌜ r ≤ 6553500000 ⌝ }
 {
     let mut o = 0;
     while o < period {
         if a[o] != 0xffff_ffff_ffff_ffff {
-            if a[o] <= b[o] {
-                return b[o] - a[o];
-            }
-            return 0;
+            return guess(a[o], b[o]);
         }
         o += 1;
     }
     0
 }
 
+fn guess(x: u64, y: u64) -> usize
+    ensures { λ r. ⌜ r ≤ 6553500000 ⌝ }
+{
+    if y < x {
+        return 0;
+    }
+    if 6553500000 < y - x {
+        return 0;
+    }
+    (y - x) as usize
+}
+
 // Is b the table a, q cycles later at every time? Any q may be tried.
-pub fn is_later(a: &[u64; 256], b: &[u64; 256], period: usize, q: u64) -> bool
+pub fn is_later(a: &[u64; 256], b: &[u64; 256], period: usize, q: usize) -> bool
     requires { ⌜ period ≤ 256 ⌝ }
     ensures { λ r. ⌜ (r ≡ true → Shifted period (now (a .entry)) q (now (b .entry))) ⌝ }
 {
@@ -134,7 +145,7 @@ pub fn all_later(t: &mut [u64; 256], period: usize, n: usize)
 }
 
 // Is y the time x, q cycles later?
-fn same_by(x: u64, y: u64, q: u64) -> bool
+fn same_by(x: u64, y: u64, q: usize) -> bool
     ensures { λ r. ⌜ (r ≡ true → LaterOf x q y) ⌝ }
 {
     if x == 0xffff_ffff_ffff_ffff {
@@ -146,7 +157,7 @@ fn same_by(x: u64, y: u64, q: u64) -> bool
     if y < x {
         return false;
     }
-    y - x == q
+    y - x == q as u64
 }
 
 // ---- single times

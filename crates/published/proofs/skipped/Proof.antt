@@ -1,29 +1,28 @@
--- n cycles add n times their cost, and lead to the same set.
-use borrow.Author.Needs.{needs}
-use native.Mathlib.Omega.{arith}
+-- n whole cycles cost n times their gain, and lead to the same set.
 use mathlib.Core.Path.{refl}
-use native.Mathlib.Nat.{mul-le-mul}
+use Rattle.cycles.proofs.Watching.{product, whole}
+use native.Mathlib.Omega.{arith}
+use borrow.Author.Needs.{needs}
 use Rattle.published.proofs.skipped.Statement.{statement}
 use Rattle.published.proofs.skipped.Tie as tie
 
-mul-cost : tie.Need-mul-cost
-mul-cost c = let s = c .before .before .before in omega (arith, mul-le-mul (s .pre .0) (s .pre .2))
+jumps-requires : tie.Need-jumps-requires
+jumps-requires c κs = let s = c .before .before .before in omega (arith, s .pre .1 .cycle-most, s .pre .0)
 
-add-cost : tie.Need-add-cost
-add-cost c = let s = c .before .before .before .before in omega (arith, mul-le-mul (s .pre .0) (s .pre .2), s .pre .1)
+mul-t9 : tie.Need-mul-t9
+mul-t9 c = let s = c .before .before .before .before .before .before .before in omega (arith, product (s .args .left) (s .args .t .watch) (c .before .before .before .jumps .result) (s .pre .0) (c .before .before .before .jumps .ensures) (s .pre .1), s .pre .2)
+
+add-t11 : tie.Need-add-t11
+add-t11 c = let s = c .before .before .before .before .before .before .before .before in omega (arith, product (s .args .left) (s .args .t .watch) (c .before .before .before .before .jumps .result) (s .pre .0) (c .before .before .before .before .jumps .ensures) (s .pre .1), s .pre .2)
+
+mul-t13 : tie.Need-mul-t13
+mul-t13 c = let s = c .before .before .before .before .before .before .before .before .before in omega (arith, whole (s .args .left) (s .args .t .watch) (c .before .before .before .before .before .jumps .result) (s .pre .0) (c .before .before .before .before .before .jumps .ensures), s .pre .0)
+
+add-t14 : tie.Need-add-t14
+add-t14 c = let s = c .before .before .before .before .before .before .before .before .before .before in omega (arith, whole (s .args .left) (s .args .t .watch) (c .before .before .before .before .before .before .jumps .result) (s .pre .0) (c .before .before .before .before .before .before .jumps .ensures), s .pre .0)
 
 returns : tie.Need-returns
-returns c = record {
-  cur = refl;
-  out = refl;
-  costs = refl;
-  old = refl;
-  spent = refl;
-  gap = refl;
-  span = refl;
-  cycle = refl;
-  gain = refl;
-}
+returns c = record { cur = refl; out = refl; kept = refl; skips = (c .before .before .before .before .before .before .jumps .result, c .before .before .before .before .before .before .jumps .ensures, refl, refl); off = (refl, refl, refl, refl) }
 
 pub skipped-spec : {M : Type 1} → statement M
-skipped-spec = tie.close (tie.spec mul-cost add-cost returns)
+skipped-spec = tie.close (tie.spec jumps-requires mul-t9 add-t11 mul-t13 add-t14 returns)

@@ -1,14 +1,9 @@
 -- The node walk and the loop unroller call each other; the pair of node number and iterations left falls. Each need is one law of
--- Children, Parts or Descents.
-use borrow.Author.Needs.{needs}
-use borrow.Fn.Kinds.{In}
-use borrow.Fn.PlainCycle.{Measures, is, falls, and}
+-- Children, Descents, Parts or Loops.
 use mathlib.Core.Path.{_≡_, sym, _∙_, ap}
 use mathlib.Core.Bool.{Bool, false, _||_}
 use lib.ListN.{getD}
-use native.Mathlib.Omega.{arith}
 use native.Mathlib.Nat.{add-zero, zero-add, sub-zero}
-use Prim.Native.Nat.{ℕ, _+_, _-_, _*_, _/_, _≤_, _<_, max}
 use Rattle.runs.specs.Slots.{equal}
 use Rattle.runs.specs.Nodes.{visits, visitsAll}
 use Rattle.runs.specs.Figures.{costAll, costAny}
@@ -21,44 +16,55 @@ use Rattle.published.specs.Steps.{bits, afterAll, afterAny}
 use Rattle.published.proofs.Joins.{empty-at, empty-within, join-within}
 use Rattle.published.proofs.Parts.{cost-all-done, cost-any-done}
 use Rattle.published.proofs.Children.{outcome-small, child-low, visits-split, child-ready, child-small, next-in-order, next-cost, next-arm, next-arm-cost}
-use Rattle.published.proofs.Descents.{in-image, in-places, plain-ready, plain-done, block-ready, block-done, sequence-ready, sequence-done, branch-ready, branch-done, body-low, loop-ready, loop-done, one-ready, half-ready, other-ready, skip-small, skip-fits, skipped-ready, skipped-unrolls, none-unrolls, one-unrolls, both-unroll}
+use Rattle.published.proofs.Descents.{in-image, in-places, plain-ready, plain-done, block-ready, block-done, sequence-ready, sequence-done, branch-ready, branch-done, repeat-ready, repeat-done}
+use Rattle.published.proofs.Loops.{one-ready, half-ready, other-ready, none-unrolls, one-asks, one-unrolls, both-unroll, begun-ready, seen-few, seen-ready, seen-cheap, skip-few, rest-ready, repeat-published}
+use native.Mathlib.Omega.{arith}
+use borrow.Author.Needs.{needs}
+use Prim.Native.Nat.{ℕ, _+_, _-_, _*_, _/_, _≤_, _<_, max}
+use borrow.Fn.Kinds.{In}
+use borrow.Fn.PlainCycle.{Measures, is, falls, and}
 use Rattle.published.proofs.branch.Reads as branch
 use Rattle.published.proofs.branch.Kinds as branch-kinds
-use Rattle.published.proofs.+branch+sequence+unroll+walk.Lts-branch as branch-lts
+use Rattle.published.proofs.+branch+repeat+sequence+unroll+walk.Lts-branch as branch-lts
+use Rattle.published.proofs.repeat.Reads as repeat
+use Rattle.published.proofs.repeat.Kinds as repeat-kinds
+use Rattle.published.proofs.+branch+repeat+sequence+unroll+walk.Lts-repeat as repeat-lts
 use Rattle.published.proofs.sequence.Reads as sequence
 use Rattle.published.proofs.sequence.Kinds as sequence-kinds
-use Rattle.published.proofs.+branch+sequence+unroll+walk.Lts-sequence as sequence-lts
+use Rattle.published.proofs.+branch+repeat+sequence+unroll+walk.Lts-sequence as sequence-lts
 use Rattle.published.proofs.unroll.Reads as unroll
 use Rattle.published.proofs.unroll.Kinds as unroll-kinds
-use Rattle.published.proofs.+branch+sequence+unroll+walk.Lts-unroll as unroll-lts
+use Rattle.published.proofs.+branch+repeat+sequence+unroll+walk.Lts-unroll as unroll-lts
 use Rattle.published.proofs.walk.Reads as walk
 use Rattle.published.proofs.walk.Kinds as walk-kinds
-use Rattle.published.proofs.+branch+sequence+unroll+walk.Lts-walk as walk-lts
+use Rattle.published.proofs.+branch+repeat+sequence+unroll+walk.Lts-walk as walk-lts
 use Rattle.image.proofs.nodes.node_at.Reads as node-at-reads
 use Rattle.image.proofs.read.word.Reads as word-reads
 use Rattle.offsets.proofs.empty.Reads as empty-reads
 use Rattle.offsets.proofs.join.Reads as join-reads
-use Rattle.published.proofs.larger.Reads as larger-reads
 use Rattle.published.proofs.before_first.Reads as before-first-reads
 use Rattle.published.proofs.block_outcome.Reads as block-outcome-reads
 use Rattle.published.proofs.joined.Reads as joined-reads
-use Rattle.cycles.proofs.jumps.Reads as jumps-reads
+use Rattle.published.proofs.larger.Reads as larger-reads
+use Rattle.published.proofs.plain_outcome.Reads as plain-outcome-reads
 use Rattle.published.proofs.skipped.Reads as skipped-reads
 use Rattle.published.proofs.watched.Reads as watched-reads
-use Rattle.published.proofs.plain_outcome.Reads as plain-outcome-reads
-use Rattle.published.proofs.+branch+sequence+unroll+walk.{statement}
-use Rattle.published.proofs.+branch+sequence+unroll+walk.Tie.{close}
+use Rattle.published.proofs.+branch+repeat+sequence+unroll+walk.{statement}
+use Rattle.published.proofs.+branch+repeat+sequence+unroll+walk.Tie.{close}
 
 -- ---- measures: the node number, and of a loop the iterations left
 
 abbrev μ-branch : Measures 2 branch-kinds.ps ℕ
 μ-branch κs a = 32768 * a .1 .1 .1 .0
 
+abbrev μ-repeat : Measures 2 repeat-kinds.ps ℕ
+μ-repeat κs a = 32768 * a .1 .1 .1 .0
+
 abbrev μ-sequence : Measures 2 sequence-kinds.ps ℕ
 μ-sequence κs a = 32768 * a .1 .1 .1 .0
 
 abbrev μ-unroll : Measures 2 unroll-kinds.ps ℕ
-μ-unroll κs a = 32768 * a .1 .1 .1 .0 + 2 + a .1 .1 .1 .1 .1 .1 .0
+μ-unroll κs a = 32768 * a .1 .1 .1 .0 + 2 + a .1 .1 .1 .1 .1 .0
 
 abbrev μ-walk : Measures 2 walk-kinds.ps ℕ
 μ-walk κs a = 32768 * a .1 .1 .1 .0 + 1
@@ -69,11 +75,18 @@ branch-at t = and 2 branch-kinds.ps (is 2 branch-kinds.ps μ-branch t) branch.Pr
 abbrev branch-below : ℕ → In 2 branch-kinds.ps
 branch-below t = and 2 branch-kinds.ps (falls 2 branch-kinds.ps _<_ μ-branch t) branch.Pre
 
+abbrev repeat-at : ℕ → In 2 repeat-kinds.ps
+repeat-at t = and 2 repeat-kinds.ps (is 2 repeat-kinds.ps μ-repeat t) repeat.Pre
+
+abbrev repeat-below : ℕ → In 2 repeat-kinds.ps
+repeat-below t = and 2 repeat-kinds.ps (falls 2 repeat-kinds.ps _<_ μ-repeat t) repeat.Pre
+
 abbrev sequence-at : ℕ → In 2 sequence-kinds.ps
 sequence-at t = and 2 sequence-kinds.ps (is 2 sequence-kinds.ps μ-sequence t) sequence.Pre
 
 abbrev sequence-below : ℕ → In 2 sequence-kinds.ps
-sequence-below t = and 2 sequence-kinds.ps (falls 2 sequence-kinds.ps _<_ μ-sequence t) sequence.Pre
+sequence-below t =
+    and 2 sequence-kinds.ps (falls 2 sequence-kinds.ps _<_ μ-sequence t) sequence.Pre
 
 abbrev unroll-at : ℕ → In 2 unroll-kinds.ps
 unroll-at t = and 2 unroll-kinds.ps (is 2 unroll-kinds.ps μ-unroll t) unroll.Pre
@@ -89,25 +102,42 @@ walk-below t = and 2 walk-kinds.ps (falls 2 walk-kinds.ps _<_ μ-walk t) walk.Pr
 
 -- what the callees ask and give, at the measure t
 abbrev branch-claims : ℕ → branch-lts.Claims
-branch-claims t = (empty-reads.Asked, empty-reads.Learnt, word-reads.Asked, word-reads.Learnt, walk-below t, walk.Post, larger-reads.Asked, larger-reads.Learnt, join-reads.Asked, join-reads.Learnt)
+branch-claims t = (
+  empty-reads.Asked,
+  empty-reads.Learnt,
+  word-reads.Asked,
+  word-reads.Learnt,
+  walk-below t,
+  walk.Post,
+  larger-reads.Asked,
+  larger-reads.Learnt,
+  join-reads.Asked,
+  join-reads.Learnt,
+)
+
+abbrev repeat-claims : ℕ → repeat-lts.Claims
+repeat-claims t = (
+  before-first-reads.Asked,
+  before-first-reads.Learnt,
+  unroll-below t,
+  unroll.Post,
+  skipped-reads.Asked,
+  skipped-reads.Learnt,
+)
 
 abbrev sequence-claims : ℕ → sequence-lts.Claims
 sequence-claims t = (word-reads.Asked, word-reads.Learnt, walk-below t, walk.Post)
 
 abbrev unroll-claims : ℕ → unroll-lts.Claims
 unroll-claims t = (
-  jumps-reads.Asked,
-  jumps-reads.Learnt,
-  skipped-reads.Asked,
-  skipped-reads.Learnt,
-  unroll-below t,
-  unroll.Post,
   walk-below t,
   walk.Post,
   joined-reads.Asked,
   joined-reads.Learnt,
   watched-reads.Asked,
   watched-reads.Learnt,
+  unroll-below t,
+  unroll.Post,
 )
 
 abbrev walk-claims : ℕ → walk-lts.Claims
@@ -122,10 +152,8 @@ walk-claims t = (
   sequence.Post,
   branch-below t,
   branch.Post,
-  before-first-reads.Asked,
-  before-first-reads.Learnt,
-  unroll-below t,
-  unroll.Post,
+  repeat-below t,
+  repeat.Post,
 )
 
 -- ---- branch
@@ -230,6 +258,49 @@ branch-returns t c =
       costs = omega (arith, cost-any-done (equal (slotsOf (a .k .bus))) (a .image .now) (a .c .place) (a .c .count) (l .i) (omega arith) (bits (a .k .bus) (a .s)), l .inv .4);
     }
 
+-- ---- repeat
+
+repeat-before-first-requires : (t : ℕ) → repeat-lts.Need-before-first-requires (repeat-claims t) (repeat-at t) repeat.Post
+repeat-before-first-requires t c κs = search needs
+
+repeat-unroll-requires : (t : ℕ) → repeat-lts.Need-unroll-requires (repeat-claims t) (repeat-at t) repeat.Post
+repeat-unroll-requires t c κs =
+    let s = c .before .before in
+    let a = s .args in
+    (omega (arith, s .pre .0, s .pre .1 .below, s .pre .1 .many), begun-ready (a .image .now) (a .k) (a .places .now) (a .node) (a .l) (a .s) (s .pre .1) (c .before-first .result) (c .before-first .ensures (a .k .bus)))
+
+repeat-sub-skipped : (t : ℕ) → repeat-lts.Need-sub-skipped (repeat-claims t) (repeat-at t) repeat.Post
+repeat-sub-skipped t c =
+    let s = c .before .before .before .before .before .before in
+    let a = s .args in
+    omega (arith, seen-few (a .image .now) (a .k) (a .places .now) (a .node) (a .l) (a .s) (s .pre .1) (c .before .before .before .before .before-first .result) (c .before .before .before .before .before-first .ensures (a .k .bus)) _ (c .before .before .before .unroll .ensures))
+
+repeat-skipped-requires : (t : ℕ) → repeat-lts.Need-skipped-requires (repeat-claims t) (repeat-at t) repeat.Post
+repeat-skipped-requires t c κs =
+    let s = c .before .before .before .before .before .before in
+    let a = s .args in
+    let u = c .before .before .before .unroll .ensures in
+    let ready = seen-ready (a .image .now) (a .k) (a .places .now) (a .node) (a .l) (a .s) (s .pre .1) (c .before .before .before .before .before-first .result) (c .before .before .before .before .before-first .ensures (a .k .bus)) _ u in
+    (ready .many, ready .small, seen-cheap (a .image .now) (a .k) (a .places .now) (a .node) (a .l) (a .s) (s .pre .1) (c .before .before .before .before .before-first .result) (c .before .before .before .before .before-first .ensures (a .k .bus)) _ u)
+
+repeat-sub-unroll : (t : ℕ) → repeat-lts.Need-sub-unroll (repeat-claims t) (repeat-at t) repeat.Post
+repeat-sub-unroll t c =
+    let s = c .before .before .before .before .before .before .before .before .before .before in
+    let a = s .args in
+    omega (arith, skip-few (a .image .now) (a .k) (a .places .now) (a .node) (a .l) (a .s) (s .pre .1) (c .before .before .before .before .before .before .before .before .before-first .result) (c .before .before .before .before .before .before .before .before .before-first .ensures (a .k .bus)) _ (c .before .before .before .before .before .before .before .unroll .ensures) _ (c .before .before .before .skipped .ensures))
+
+repeat-unroll-requires-2 : (t : ℕ) → repeat-lts.Need-unroll-requires-2 (repeat-claims t) (repeat-at t) repeat.Post
+repeat-unroll-requires-2 t c κs =
+    let s = c .before .before .before .before .before .before .before .before .before .before in
+    let a = s .args in
+    (omega (arith, s .pre .0, s .pre .1 .below, s .pre .1 .many), rest-ready (a .image .now) (a .k) (a .places .now) (a .node) (a .l) (a .s) (s .pre .1) (c .before .before .before .before .before .before .before .before .before-first .result) (c .before .before .before .before .before .before .before .before .before-first .ensures (a .k .bus)) _ (c .before .before .before .before .before .before .before .unroll .ensures) _ (c .before .before .before .skipped .ensures))
+
+repeat-returns : (t : ℕ) → repeat-lts.Need-returns (repeat-claims t) (repeat-at t) repeat.Post
+repeat-returns t c =
+    let s = c .before .before .before .before .before .before .before .before .before .before .before .before .before in
+    let a = s .args in
+    repeat-published (a .image .now) (a .k) (a .places .now) (a .node) (a .l) (a .s) (s .pre .1) (c .before .before .before .before .before .before .before .before .before .before .before .before-first .result) (c .before .before .before .before .before .before .before .before .before .before .before .before-first .ensures (a .k .bus)) _ (c .before .before .before .before .before .before .before .before .before .before .unroll .ensures) _ (c .before .before .before .before .before .before .skipped .ensures) (c .before .before .unroll2 .result) (c .before .before .unroll2 .ensures)
+
 -- ---- sequence
 
 abbrev sequence-Inv-loop : sequence-lts.InvT-loop
@@ -328,117 +399,54 @@ sequence-returns t c =
 -- ---- unroll
 
 unroll-returns : (t : ℕ) → unroll-lts.Need-returns (unroll-claims t) (unroll-at t) unroll.Post
-unroll-returns t c =
-    let s = c .before .before in
-    let a = s .args in
-    none-unrolls (a .image .now) (a .k) (a .places .now) (a .body) (a .done) (a .left) (a .p) (a .w) (s .pre .1) (c .if1 .taken) (a .least)
-
-unroll-jumps-requires : (t : ℕ) → unroll-lts.Need-jumps-requires (unroll-claims t) (unroll-at t) unroll.Post
-unroll-jumps-requires t c κs =
-    let s = c .before .before in
-    let a = s .args in
-    omega (arith, s .pre .1 .small .cycle-most, s .pre .1 .many)
-
-unroll-skipped-requires : (t : ℕ) → unroll-lts.Need-skipped-requires (unroll-claims t) (unroll-at t) unroll.Post
-unroll-skipped-requires t c κs =
-    let s = c .before .before .before .before in
-    let a = s .args in
-    skip-small (a .image .now) (a .k) (a .places .now) (a .body) (a .done) (a .left) (a .p) (a .w) (s .pre .1) (c .before .jumps .result) (c .before .jumps .ensures) (c .if2 .taken)
-
-unroll-mul-skip : (t : ℕ) → unroll-lts.Need-mul-skip (unroll-claims t) (unroll-at t) unroll.Post
-unroll-mul-skip t c =
-    let s = c .before .before .before .before .before .before .before .before in
-    let a = s .args in
-    omega (arith, skip-fits (a .image .now) (a .k) (a .places .now) (a .body) (a .done) (a .left) (a .p) (a .w) (s .pre .1) (c .before .before .before .before .before .jumps .result) (c .before .before .before .before .before .jumps .ensures) (c .before .before .before .before .if2 .taken))
-
-unroll-add-unroll : (t : ℕ) → unroll-lts.Need-add-unroll (unroll-claims t) (unroll-at t) unroll.Post
-unroll-add-unroll t c =
-    let s = c .before .before .before .before .before .before .before .before in
-    let a = s .args in
-    omega (arith, skip-fits (a .image .now) (a .k) (a .places .now) (a .body) (a .done) (a .left) (a .p) (a .w) (s .pre .1) (c .before .before .before .before .before .jumps .result) (c .before .before .before .before .before .jumps .ensures) (c .before .before .before .before .if2 .taken), s .pre .1 .many)
-
-unroll-sub-unroll : (t : ℕ) → unroll-lts.Need-sub-unroll (unroll-claims t) (unroll-at t) unroll.Post
-unroll-sub-unroll t c =
-    let s = c .before .before .before .before .before .before .before .before in
-    let a = s .args in
-    omega (arith, skip-fits (a .image .now) (a .k) (a .places .now) (a .body) (a .done) (a .left) (a .p) (a .w) (s .pre .1) (c .before .before .before .before .before .jumps .result) (c .before .before .before .before .before .jumps .ensures) (c .before .before .before .before .if2 .taken))
-
-unroll-unroll-requires : (t : ℕ) → unroll-lts.Need-unroll-requires (unroll-claims t) (unroll-at t) unroll.Post
-unroll-unroll-requires t c κs =
-    let s = c .before .before .before .before .before .before .before .before in
-    let a = s .args in
-    (omega (arith, s .pre .0, skip-fits (a .image .now) (a .k) (a .places .now) (a .body) (a .done) (a .left) (a .p) (a .w) (s .pre .1) (c .before .before .before .before .before .jumps .result) (c .before .before .before .before .before .jumps .ensures) (c .before .before .before .before .if2 .taken)), skipped-ready (a .image .now) (a .k) (a .places .now) (a .body) (a .done) (a .left) (a .p) (a .w) (s .pre .1) (c .before .before .before .before .before .jumps .result) (c .before .before .before .before .before .jumps .ensures) (c .before .before .before .before .if2 .taken) (c .before .before .before .skipped .result) (c .before .before .before .skipped .ensures))
+unroll-returns t c = let s = c .before .before .before in let a = s .args in none-unrolls (a .image .now) (a .k) (a .places .now) (a .body) (a .left) (a .t) (s .pre .1) (a .least) (λ e. c .if1 .taken)
 
 unroll-returns-2 : (t : ℕ) → unroll-lts.Need-returns-2 (unroll-claims t) (unroll-at t) unroll.Post
-unroll-returns-2 t c =
-    let s = c .before .before .before .before .before .before .before .before .before in
-    let a = s .args in
-    skipped-unrolls (a .image .now) (a .k) (a .places .now) (a .body) (a .done) (a .left) (a .p) (a .w) (s .pre .1) (c .before .before .before .before .before .before .jumps .result) (c .before .before .before .before .before .before .jumps .ensures) (c .before .before .before .before .before .if2 .taken) (c .before .before .before .before .skipped .result) (c .before .before .before .before .skipped .ensures) (a .least) (c .unroll .result) (c .unroll .ensures)
+unroll-returns-2 t c = let s = c .before .before .before .before .before in let a = s .args in none-unrolls (a .image .now) (a .k) (a .places .now) (a .body) (a .left) (a .t) (s .pre .1) (a .least) (λ e. absurd (omega (arith, e, c .if2 .taken)))
 
 unroll-walk-requires : (t : ℕ) → unroll-lts.Need-walk-requires (unroll-claims t) (unroll-at t) unroll.Post
-unroll-walk-requires t c κs =
-    let s = c .before .before .before .before .before .before in
-    let a = s .args in
-    (omega (arith, s .pre .0), one-ready (a .image .now) (a .k) (a .places .now) (a .body) (a .done) (a .left) (a .p) (a .w) (s .pre .1) (c .before .if3 .taken))
+unroll-walk-requires t c κs = let s = c .before .before .before .before .before .before .before .before .before in let a = s .args in (omega (arith, s .pre .0), one-ready (a .image .now) (a .k) (a .places .now) (a .body) (a .left) (a .t) (s .pre .1) (c .before .before .before .if3 .taken))
 
 unroll-joined-requires : (t : ℕ) → unroll-lts.Need-joined-requires (unroll-claims t) (unroll-at t) unroll.Post
 unroll-joined-requires t c κs =
-    let s = c .before .before .before .before .before .before .before in
-    let a = s .args in (
-      omega (arith, s .pre .1 .many),
-      omega (arith, rw (c .before .before .if3 .taken) at (s .pre .1 .few), outcome-small (a .image .now) (a .k) (a .places .now) (s .pre .1 .walkable) (a .body) (s .pre .1 .low) (a .p .cur) (c .walk .result) (c .walk .ensures)),
-    )
+    let s = c .before .before .before .before .before .before .before .before .before .before in
+    let a = s .args in
+    let small = outcome-small (a .image .now) (a .k) (a .places .now) (s .pre .1 .walkable) (a .body) (s .pre .1 .low) (a .t .pass .cur) (c .walk .result) (c .walk .ensures) in
+    (omega (arith, s .pre .1 .many), omega (arith, small, c .before .before .before .before .if3 .taken, rw (c .before .before .before .before .if3 .taken) at (s .pre .1 .few)))
 
 unroll-watched-requires : (t : ℕ) → unroll-lts.Need-watched-requires (unroll-claims t) (unroll-at t) unroll.Post
 unroll-watched-requires t c κs =
-    let s = c .before .before .before .before .before .before .before .before in
+    let s = c .before .before .before .before .before .before .before .before .before .before .before in
     let a = s .args in
-    let costs = c .joined .ensures (a .k .bus) .costs in (
-      record {
-        gap-most = omega (arith, s .pre .1 .small .gap-most, s .pre .1 .many, c .before .before .before .if3 .taken);
-        span-most = s .pre .1 .small .span-most;
-        cycle-most = omega (arith, s .pre .1 .small .cycle-most, s .pre .1 .many, c .before .before .before .if3 .taken);
-        gain-most = s .pre .1 .small .gain-most;
-      },
-      omega (arith, costs, s .pre .1 .watches .paid),
-      omega (arith, costs, rw (c .before .before .before .if3 .taken) at (s .pre .1 .few), outcome-small (a .image .now) (a .k) (a .places .now) (s .pre .1 .walkable) (a .body) (s .pre .1 .low) (a .p .cur) (c .before .walk .result) (c .before .walk .ensures)),
-    )
+    let asks = one-asks (a .image .now) (a .k) (a .places .now) (a .body) (a .left) (a .t) (s .pre .1) (a .least) (c .before .before .before .before .before .if3 .taken) (c .before .walk .result) (c .joined .result) (c .before .walk .ensures) (c .joined .ensures (a .k .bus)) in
+    (asks .0, s .pre .1 .small, asks .1, asks .2)
 
 unroll-returns-3 : (t : ℕ) → unroll-lts.Need-returns-3 (unroll-claims t) (unroll-at t) unroll.Post
 unroll-returns-3 t c =
-    let s = c .before .before .before .before .before .before .before .before .before in
+    let s = c .before .before .before .before .before .before .before .before .before .before .before .before in
     let a = s .args in
-    one-unrolls (a .image .now) (a .k) (a .places .now) (a .body) (a .done) (a .left) (a .p) (a .w) (s .pre .1) (c .before .before .before .before .if3 .taken) (a .least) (c .before .before .walk .result) (c .before .joined .result) (c .watched .result) (c .before .before .walk .ensures)
-    (c .before .joined .ensures (a .k .bus)) (c .watched .ensures)
+    let none-yet : a .t .watch .cycle ≡ 0 = omega (arith, c .before .before .before .before .before .before .before .if2 .left) in
+    one-unrolls (a .image .now) (a .k) (a .places .now) (a .body) (a .left) (a .t) (s .pre .1) (a .least) (c .before .before .before .before .before .before .if3 .taken) (c .before .before .walk .result) (c .before .joined .result) (c .before .before .walk .ensures) (c .before .joined .ensures (a .k .bus))
+    none-yet (c .watched .result) (c .watched .ensures)
+
+unroll-unroll-requires : (t : ℕ) → unroll-lts.Need-unroll-requires (unroll-claims t) (unroll-at t) unroll.Post
+unroll-unroll-requires t c κs = let s = c .before .before .before .before .before .before in let a = s .args in (omega (arith, s .pre .0, c .before .before .before .if1 .left, c .if3 .left), half-ready (a .image .now) (a .k) (a .places .now) (a .body) (a .left) (a .t) (s .pre .1) (a .left / 2) (omega arith))
+
+unroll-sub-unroll : (t : ℕ) → unroll-lts.Need-sub-unroll (unroll-claims t) (unroll-at t) unroll.Post
+unroll-sub-unroll t c = omega arith
 
 unroll-unroll-requires-2 : (t : ℕ) → unroll-lts.Need-unroll-requires-2 (unroll-claims t) (unroll-at t) unroll.Post
 unroll-unroll-requires-2 t c κs =
-    let s = c .before .before .before .before .before in
+    let s = c .before .before .before .before .before .before .before in
     let a = s .args in
-    (omega (arith, s .pre .0), half-ready (a .image .now) (a .k) (a .places .now) (a .body) (a .done) (a .left) (a .p) (a .w) (s .pre .1) (a .left / 2) (omega arith))
-
-unroll-add-unroll-2 : (t : ℕ) → unroll-lts.Need-add-unroll-2 (unroll-claims t) (unroll-at t) unroll.Post
-unroll-add-unroll-2 t c =
-    let s = c .before .before .before .before .before .before .before .before in
-    let a = s .args in
-    omega (arith, s .pre .1 .many)
-
-unroll-sub-unroll-2 : (t : ℕ) → unroll-lts.Need-sub-unroll-2 (unroll-claims t) (unroll-at t) unroll.Post
-unroll-sub-unroll-2 t c = omega arith
-
-unroll-unroll-requires-3 : (t : ℕ) → unroll-lts.Need-unroll-requires-3 (unroll-claims t) (unroll-at t) unroll.Post
-unroll-unroll-requires-3 t c κs =
-    let s = c .before .before .before .before .before .before .before .before in
-    let a = s .args in
-    (omega (arith, s .pre .0), other-ready (a .image .now) (a .k) (a .places .now) (a .body) (a .done) (a .left) (a .p) (a .w) (s .pre .1) (a .least) (a .left / 2) (omega arith) (c .before .before .unroll2 .result) (c .before .before .unroll2 .ensures))
+    (omega (arith, s .pre .0, c .before .before .before .before .if1 .left, c .before .if3 .left), other-ready (a .image .now) (a .k) (a .places .now) (a .body) (a .left) (a .t) (s .pre .1) (a .least) (a .left / 2) (omega arith) (c .unroll .result) (c .unroll .ensures))
 
 unroll-returns-4 : (t : ℕ) → unroll-lts.Need-returns-4 (unroll-claims t) (unroll-at t) unroll.Post
 unroll-returns-4 t c =
-    let a = c .before .before .before .before .before .before .before .before .before .args in
-    let e : a .left / 2 + (a .left - a .left / 2) ≡ a .left = omega arith in
-    rw (← e)
-    (both-unroll (a .k .bus) (treeAt (a .image .now) (a .body)) (a .least) (a .done) (a .left / 2) (a .left - a .left / 2) (a .p) (c .before .before .before .unroll2 .result) (c .unroll3 .result)
-    (c .before .before .before .unroll2 .ensures) (c .unroll3 .ensures))
+    let s = c .before .before .before .before .before .before .before .before in
+    let a = s .args in
+    both-unroll (a .k .bus) (treeAt (a .image .now) (a .body)) (a .least) (a .left) (a .left / 2) (omega arith) (a .t) (c .before .unroll .result) (c .unroll2 .result)
+    (c .before .unroll .ensures) (c .unroll2 .ensures)
 
 -- ---- walk
 
@@ -498,17 +506,13 @@ walk-branch-requires t c κs =
 walk-enum-known-n-5 : (t : ℕ) → walk-lts.Need-enum-known-n-5 (walk-claims t) (walk-at t) walk.Post
 walk-enum-known-n-5 t c = c .match .keys5
 
-walk-before-first-requires : (t : ℕ) → walk-lts.Need-before-first-requires (walk-claims t) (walk-at t) walk.Post
-walk-before-first-requires t c κs = search needs
-
-walk-unroll-requires : (t : ℕ) → walk-lts.Need-unroll-requires (walk-claims t) (walk-at t) walk.Post
-walk-unroll-requires t c κs =
-    let s = c .before .before .before .before .before .before .before .before in
+walk-repeat-requires : (t : ℕ) → walk-lts.Need-repeat-requires (walk-claims t) (walk-at t) walk.Post
+walk-repeat-requires t c κs =
+    let s = c .before .before .before .before .before .before .before in
     let a = s .args in
-    let e = sym (c .before .before .before .before .before .node-at .ensures) ∙ c .before .before .n5 .given .1 in
-    let x = c .before .before .n5 .given .0 .0 in
-    let low = body-low (a .image .now) (a .k) (a .places .now) (a .node) (a .s) (s .pre .1) x e (c .before-first .result) (c .before-first .ensures (a .k .bus)) in
-    (omega (arith, s .pre .0, low .0, low .1), loop-ready (a .image .now) (a .k) (a .places .now) (a .node) (a .s) (s .pre .1) x e (c .before-first .result) (c .before-first .ensures (a .k .bus)))
+    let e = sym (c .before .before .before .before .node-at .ensures) ∙ c .before .n5 .given .1 in
+    let x = c .before .n5 .given .0 .0 in
+    (omega (arith, s .pre .0), repeat-ready (a .image .now) (a .k) (a .places .now) (a .node) (a .s) (s .pre .1) x e)
 
 walk-returns : (t : ℕ) → walk-lts.Need-returns (walk-claims t) (walk-at t) walk.Post
 walk-returns t c =
@@ -544,16 +548,19 @@ walk-returns-4 t c =
 
 walk-returns-5 : (t : ℕ) → walk-lts.Need-returns-5 (walk-claims t) (walk-at t) walk.Post
 walk-returns-5 t c =
-    let s = c .before .before .before .before .before .before .before .before .before .before .before in
+    let s = c .before .before .before .before .before .before .before .before in
     let a = s .args in
-    let e = sym (c .before .before .before .before .before .before .before .before .node-at .ensures) ∙ c .before .before .before .before .before .n5 .given .1 in
-    let x = c .before .before .before .before .before .n5 .given .0 .0 in
-    loop-done (a .image .now) (a .k) (a .places .now) (a .node) (a .s) (s .pre .1) x e (c .before .before .before .before-first .result) (c .before .before .before .before-first .ensures (a .k .bus)) (c .before .before .unroll .result) (c .before .before .unroll .ensures)
+    let e = sym (c .before .before .before .before .before .node-at .ensures) ∙ c .before .before .n5 .given .1 in
+    let x = c .before .before .n5 .given .0 .0 in
+    repeat-done (a .image .now) (a .k) (a .places .now) (a .node) (a .s) (s .pre .1) x e (c .repeat .result) (c .repeat .ensures)
 
-pub +branch+sequence+unroll+walk-spec : {M : Type 1} → statement M
-+branch+sequence+unroll+walk-spec =
-    close μ-branch μ-sequence μ-unroll μ-walk
-    (λ t. branch-lts.spec (branch-claims t) (branch-at t) branch.Post branch-Inv-loop branch-μ-loop
+pub +branch+repeat+sequence+unroll+walk-spec : {M : Type 1} → statement M
++branch+repeat+sequence+unroll+walk-spec =
+    close μ-branch μ-repeat μ-sequence μ-unroll μ-walk (λ t. branch-lts.spec (branch-claims t)
+    (branch-at t)
+    branch.Post
+    branch-Inv-loop
+    branch-μ-loop
     (branch-empty-requires t)
     (branch-loop-holds t)
     (branch-mul-word t)
@@ -566,7 +573,22 @@ pub +branch+sequence+unroll+walk-spec : {M : Type 1} → statement M
     (branch-loop-less t)
     (branch-loop-again t)
     (branch-returns t))
-    (λ t. sequence-lts.spec (sequence-claims t) (sequence-at t) sequence.Post sequence-Inv-loop sequence-μ-loop
+    (λ t. repeat-lts.spec (repeat-claims t)
+    (repeat-at t)
+    repeat.Post
+    (repeat-before-first-requires t)
+    (repeat-unroll-requires t)
+    (repeat-sub-skipped t)
+    (repeat-skipped-requires t)
+    (repeat-sub-unroll t)
+    (repeat-unroll-requires-2 t)
+    (repeat-returns t))
+    (λ t. sequence-lts.spec
+    (sequence-claims t)
+    (sequence-at t)
+    sequence.Post
+    sequence-Inv-loop
+    sequence-μ-loop
     (sequence-loop-holds t)
     (sequence-mul-word t)
     (sequence-add-word t)
@@ -577,25 +599,22 @@ pub +branch+sequence+unroll+walk-spec : {M : Type 1} → statement M
     (sequence-loop-less t)
     (sequence-loop-again t)
     (sequence-returns t))
-    (λ t. unroll-lts.spec (unroll-claims t) (unroll-at t) unroll.Post
+    (λ t. unroll-lts.spec (unroll-claims t)
+    (unroll-at t)
+    unroll.Post
     (unroll-returns t)
-    (unroll-jumps-requires t)
-    (unroll-skipped-requires t)
-    (unroll-mul-skip t)
-    (unroll-add-unroll t)
-    (unroll-sub-unroll t)
-    (unroll-unroll-requires t)
     (unroll-returns-2 t)
     (unroll-walk-requires t)
     (unroll-joined-requires t)
     (unroll-watched-requires t)
     (unroll-returns-3 t)
+    (unroll-unroll-requires t)
+    (unroll-sub-unroll t)
     (unroll-unroll-requires-2 t)
-    (unroll-add-unroll-2 t)
-    (unroll-sub-unroll-2 t)
-    (unroll-unroll-requires-3 t)
     (unroll-returns-4 t))
-    λ t. walk-lts.spec (walk-claims t) (walk-at t) walk.Post
+    λ t. walk-lts.spec (walk-claims t)
+    (walk-at t)
+    walk.Post
     (walk-mul-at t)
     (walk-element-copy-out-at t)
     (walk-node-at-requires t)
@@ -608,8 +627,7 @@ pub +branch+sequence+unroll+walk-spec : {M : Type 1} → statement M
     (walk-enum-known-n-4 t)
     (walk-branch-requires t)
     (walk-enum-known-n-5 t)
-    (walk-before-first-requires t)
-    (walk-unroll-requires t)
+    (walk-repeat-requires t)
     (walk-returns t)
     (walk-returns-2 t)
     (walk-returns-3 t)
