@@ -24,12 +24,12 @@ use Rattle.image.proofs.Walks.{valid-at}
 use Rattle.exits.specs.Exits.{busPeriod, Within}
 use Rattle.cycles.specs.Cycles.{Jumps}
 use Rattle.cycles.specs.declared.Watch.{Watch}
-use Rattle.cycles.proofs.Watching.{whole}
+use Rattle.cycles.proofs.Watching.{goes-none, goes-one, goes-both, whole, skips-small, skips-watches, skips-ends}
 use Rattle.published.specs.declared.Outcome.{Outcome}
 use Rattle.published.specs.declared.Pass.{Pass}
 use Rattle.published.specs.declared.Kept.{Kept}
 use Rattle.published.specs.declared.Turns.{Turns}
-use Rattle.published.specs.Steps.{bits, after, charge, State, state, next, Cyclic, Ready, ReadyRepeat, ReadyLoop, Published, BegunAt, TurnedAt, UnrolledAt, WatchedBy, SkippedBy, Unrolls}
+use Rattle.published.specs.Steps.{bits, after, charge, State, state, next, charged, Cyclic, Ready, ReadyRepeat, ReadyLoop, Published, BegunAt, TurnedAt, UnrolledAt, WatchedBy, SkippedBy, Unrolls}
 use Rattle.published.proofs.Parts.{as-loop, none-left, one-left, both-left}
 use Rattle.published.proofs.Watching.{multiple, multiple-cost, unrolled-skip, cyclic-of}
 
@@ -70,26 +70,21 @@ module _ (s : List ℕ) (k : Task) (places : List ℕ) (body left : ℕ) (t : Tu
   other-ready least h l a u = record {
     walkable = r .walkable;
     low = r .low;
-    many = omega (arith, r .many, u .most);
-    few = later-few (a .watch .done - t .watch .done) (left - h) (a .pass .cost) (omega (arith, u .most, u .more)) (u .unrolled .costs);
+    many = omega (arith, r .many, u .goes .most);
+    few = later-few (a .watch .done - t .watch .done) (left - h) (a .pass .cost) (omega (arith, u .goes .most, u .goes .more)) (u .unrolled .costs);
     within = u .unrolled .within;
     within-out = u .unrolled .within-out;
     spent = u .spent;
-    small = u .small;
+    small = u .goes .small;
     watches = u .watches;
   }
 
   -- no iteration: none is left, or a cycle is known
   pub none-unrolls : (least : ℕ) → (t .watch .cycle ≡ 0 → left ≡ 0) → Unrolls (k .bus) x least left t t
   none-unrolls least stop = record {
-    more = le-refl (t .watch .done);
-    most = omega arith;
-    ends = λ e. omega (arith, stop e);
-    keeps = λ e. e;
-    off = λ e f. (e, f);
+    goes = goes-none left (t .watch) (r .small) stop;
     unrolled = rw (sub-self (t .watch .done)) (none-left (k .bus) x least (t .watch .done) (t .pass) (r .within) (r .within-out));
     spent = r .spent;
-    small = r .small;
     watches = r .watches;
   }
 
@@ -104,16 +99,11 @@ module _ (s : List ℕ) (k : Task) (places : List ℕ) (body left : ℕ) (t : Tu
 
     pub one-unrolls : t .watch .cycle ≡ 0 → (a : Turns) → WatchedBy p (t .kept) (t .watch) a → Unrolls (k .bus) x least left t a
     one-unrolls none-yet a seen =
-        let one : a .watch .done - t .watch .done ≡ 1 = omega (arith, seen .counts) in
+        let one : a .watch .done - t .watch .done ≡ 1 = omega (arith, seen .counts .done) in
         record {
-          more = omega (arith, seen .counts);
-          most = omega (arith, seen .counts);
-          ends = λ z. omega (arith, seen .counts);
-          keeps = λ z. none-yet;
-          off = λ z f. seen .off z;
+          goes = goes-one left (t .watch) (a .watch) e none-yet (seen .counts);
           unrolled = rw (one, seen .pass) (one-left (k .bus) x least (t .watch .done) (t .pass) n p (r .within-out) step turned);
           spent = rw (seen .pass) (seen .spent);
-          small = seen .small;
           watches = rw (seen .pass) (seen .watches (k .bus) x (state (k .bus) (t .pass .cur) (t .pass .cost)) (r .watches) led);
         }
       where
@@ -127,20 +117,15 @@ module _ (s : List ℕ) (k : Task) (places : List ℕ) (body left : ℕ) (t : Tu
 pub both-unroll : (b : Bus) (x : Tree) (least left h : ℕ) → h ≤ left → (t a q : Turns) → Unrolls b x least h t a → Unrolls b x least (left - h) a q
     → Unrolls b x least left t q
 both-unroll b x least left h l t a q u v =
-    let all : (a .watch .done - t .watch .done) + (q .watch .done - a .watch .done) ≡ q .watch .done - t .watch .done = omega (arith, u .more, v .more) in
-    let mid : t .watch .done + (a .watch .done - t .watch .done) ≡ a .watch .done = omega (arith, u .more) in
+    let all : (a .watch .done - t .watch .done) + (q .watch .done - a .watch .done) ≡ q .watch .done - t .watch .done = omega (arith, u .goes .more, v .goes .more) in
+    let mid : t .watch .done + (a .watch .done - t .watch .done) ≡ a .watch .done = omega (arith, u .goes .more) in
     record {
-      more = omega (arith, u .more, v .more);
-      most = omega (arith, u .most, v .most);
-      ends = λ e. omega (arith, u .ends (v .keeps e), v .ends e);
-      keeps = λ e. u .keeps (v .keeps e);
-      off = λ e f. let g = u .off e f in v .off (g .0) (g .1);
+      goes = goes-both left h l (t .watch) (a .watch) (q .watch) (u .goes) (v .goes);
       unrolled =
           rw (← all)
           (both-left b x least (t .watch .done) (a .watch .done - t .watch .done) (q .watch .done - a .watch .done) (t .pass) (a .pass) (q .pass)
           (u .unrolled) (rw mid (v .unrolled)));
       spent = v .spent;
-      small = v .small;
       watches = v .watches;
     }
 
@@ -182,7 +167,7 @@ module _ (s : List ℕ) (k : Task) (places : List ℕ) (node : ℕ) (l : Loop) (
 
   module _ (a : Turns) (u : Unrolls (k .bus) y (l .least) (l .greatest) begun a) where
     pub seen-few : a .watch .done ≤ l .greatest
-    seen-few = omega (arith, u .most)
+    seen-few = omega (arith, u .goes .most)
 
     pub seen-ready : ReadyLoop s k places (l .body) (l .greatest - a .watch .done) a
     seen-ready =
@@ -190,14 +175,14 @@ module _ (s : List ℕ) (k : Task) (places : List ℕ) (node : ℕ) (l : Loop) (
         record {
           walkable = r .walkable;
           low = b .low;
-          many = omega (arith, r .many, u .most);
+          many = omega (arith, r .many, u .goes .most);
           few =
               later-few s k places (l .body) (l .greatest) begun b (a .watch .done - 0) (l .greatest - a .watch .done) (a .pass .cost)
-              (omega (arith, u .most)) (u .unrolled .costs);
+              (omega (arith, u .goes .most)) (u .unrolled .costs);
           within = u .unrolled .within;
           within-out = u .unrolled .within-out;
           spent = u .spent;
-          small = u .small;
+          small = u .goes .small;
           watches = u .watches;
         }
 
@@ -209,13 +194,13 @@ module _ (s : List ℕ) (k : Task) (places : List ℕ) (node : ℕ) (l : Loop) (
       n = e .skips .0
 
       fits : n * a .watch .cycle ≤ l .greatest - a .watch .done
-      fits = whole (l .greatest - a .watch .done) (a .watch) n (seen-ready .many) (e .skips .1)
+      fits = whole (l .greatest - a .watch .done) (a .watch) n (seen-ready .many) (e .skips .1 .jumps)
 
       pub skip-few : q .watch .done ≤ l .greatest
-      skip-few = omega (arith, fits, e .skips .2, u .most)
+      skip-few = omega (arith, fits, e .skips .1 .done, u .goes .most)
 
       cycle : 1 ≤ n → Cyclic (k .bus) y (a .watch .cycle) (a .watch .gain) (bits (k .bus) (a .pass .cur))
-      cycle m = cyclic-of (k .bus) y (a .watch .cycle) (a .watch .gain) _ (u .watches .cyclic (e .skips .1 .room m .0))
+      cycle m = cyclic-of (k .bus) y (a .watch .cycle) (a .watch .gain) _ (u .watches .cyclic (e .skips .1 .jumps .room m .0))
 
       -- the set behind the skipped cycles, and their cost
       skip-set : iterate (after (k .bus) y) (n * a .watch .cycle) (bits (k .bus) (a .pass .cur)) ≡ bits (k .bus) (q .pass .cur)
@@ -229,7 +214,7 @@ module _ (s : List ℕ) (k : Task) (places : List ℕ) (node : ℕ) (l : Loop) (
       paid : q .pass .cost ≡ a .pass .cost + sum (n * a .watch .cycle) (charge (k .bus) y (bits (k .bus) (a .pass .cur)))
       unfolding sum
       paid =
-          e .skips .3
+          e .skips .2
           ∙ ap (λ (m : ℕ). a .pass .cost + m)
           (split 1 n
           (λ m. sym (multiple-cost (k .bus) y (a .watch .cycle) (a .watch .gain) _ (cycle m) n))
@@ -242,17 +227,12 @@ module _ (s : List ℕ) (k : Task) (places : List ℕ) (node : ℕ) (l : Loop) (
         many = omega (arith, r .many, skip-few);
         few =
             later-few s k places (l .body) (l .greatest - a .watch .done) a seen-ready (n * a .watch .cycle) (l .greatest - q .watch .done) (q .pass .cost)
-            (omega (arith, fits, e .skips .2)) paid;
+            (omega (arith, fits, e .skips .1 .done)) paid;
         within = rw (e .cur) (u .unrolled .within);
         within-out = rw (e .out) (u .unrolled .within-out);
-        spent = rw (e .kept) (omega (arith, u .spent, e .skips .3));
-        small = record {
-          gap-most = omega (arith, e .off .0);
-          span-most = omega (arith, e .off .1);
-          cycle-most = omega (arith, e .off .2);
-          gain-most = omega (arith, e .off .3);
-        };
-        watches = record { past = λ m. absurd (omega (arith, e .off .1)); cyclic = λ m. absurd (omega (arith, e .off .2)) };
+        spent = rw (e .kept) (omega (arith, u .spent, e .skips .2));
+        small = skips-small _ (a .watch) n (q .watch) (e .skips .1);
+        watches = skips-watches (next (k .bus) y) charged _ (a .watch) n (q .watch) (e .skips .1) _ _;
       }
 
       -- unrolling the rest is unrolling all that was left
@@ -261,7 +241,7 @@ module _ (s : List ℕ) (k : Task) (places : List ℕ) (node : ℕ) (l : Loop) (
       skip-unrolled w v = record {
         unrolled =
             split 1 n
-            (λ m. let j = e .skips .1 .room m in
+            (λ m. let j = e .skips .1 .jumps .room m in
             unrolled-skip (k .bus) y (busPeriod (k .bus)) (a .watch .cycle) (a .watch .gain) _ (cycle m) (j .0) (l .least) (a .watch .done)
             (l .greatest - a .watch .done) n (j .1) _ _ _
             (same-from (k .bus) y (l .least) _ _ _ _ _ _ _ _ _ _ refl refl (ap (bits (k .bus)) (e .cur)) (ap (bits (k .bus)) (e .out)) (v .unrolled)))
@@ -293,11 +273,10 @@ module _ (s : List ℕ) (k : Task) (places : List ℕ) (node : ℕ) (l : Loop) (
       pub repeat-published : (z : Turns) → Unrolls (k .bus) y (l .least) (l .greatest - q .watch .done) q z
           → Published (k .bus) (Tree.loop (l .least) (l .greatest) y) x₀ (record { cost = z .pass .cost; exits = z .pass .out })
       repeat-published z v =
-          let o = e .off in
-          let ends : z .watch .done ≡ q .watch .done + (l .greatest - q .watch .done) = v .ends (v .off (o .1) (o .2) .1) in
-          let left : z .watch .done - q .watch .done ≡ l .greatest - a .watch .done - n * a .watch .cycle = omega (arith, ends, e .skips .2, skip-few) in
-          let rest = skip-unrolled (z .pass) (counted (z .pass) (q .watch .done) _ (z .watch .done - q .watch .done) _ (e .skips .2) left (v .unrolled)) in
-          let whole-count : (a .watch .done - 0) + (l .greatest - a .watch .done) ≡ l .greatest = omega (arith, u .most) in
+          let ends : z .watch .done ≡ q .watch .done + (l .greatest - q .watch .done) = skips-ends _ (a .watch) n (q .watch) (e .skips .1) _ (z .watch) (v .goes) in
+          let left : z .watch .done - q .watch .done ≡ l .greatest - a .watch .done - n * a .watch .cycle = omega (arith, ends, e .skips .1 .done, skip-few) in
+          let rest = skip-unrolled (z .pass) (counted (z .pass) (q .watch .done) _ (z .watch .done - q .watch .done) _ (e .skips .1 .done) left (v .unrolled)) in
+          let whole-count : (a .watch .done - 0) + (l .greatest - a .watch .done) ≡ l .greatest = omega (arith, u .goes .most) in
           let from : 0 + (a .watch .done - 0) ≡ a .watch .done = omega arith in
           as-loop (k .bus) (Tree.loop (l .least) (l .greatest) y) x₀ y (l .least) (l .greatest) p (z .pass) refl g
           (rw (← whole-count) (both-left (k .bus) y (l .least) 0 (a .watch .done - 0) (l .greatest - a .watch .done) p (a .pass) (z .pass) (u .unrolled) (rw from rest)))

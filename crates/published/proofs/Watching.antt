@@ -107,8 +107,6 @@ pub watched-by : (p : Pass) (kept kept' : Kept) (w : Watch) (same : Bool) (v : W
 watched-by p kept kept' w same v less seen is renewed stays = record {
   pass = refl;
   counts = seen .counts;
-  small = seen .small;
-  off = seen .off;
   spent = elim (ℕ-discrete (v .gap) 0) [ yes e ↦ rw (renewed e) (le-refl (p .cost)) | no n ↦ rw (stays n) less ];
   watches = λ b x C h s.
       watches-next (next b x) charged (commutes b x) w same (p .cost - kept .spent) v seen C (state b (kept .set) (kept .spent)) (state b (p .cur) (p .cost))

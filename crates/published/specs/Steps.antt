@@ -17,7 +17,7 @@ use Rattle.image.specs.Nodes.{treeAt, childTrees}
 use Rattle.image.specs.Walks.{Walkable, Named}
 use Rattle.image.specs.declared.Task.{Task}
 use Rattle.image.specs.declared.nodes.Loop.{Loop}
-use Rattle.cycles.specs.Cycles.{Small, Jumps, Watches}
+use Rattle.cycles.specs.Cycles.{Small, Counts, Goes, Skips, Watches}
 use Rattle.cycles.specs.declared.Watch.{Watch}
 use Rattle.exits.specs.Exits.{bitsOf, busPeriod, Within, Exited}
 use Rattle.published.specs.declared.Outcome.{Outcome}
@@ -132,20 +132,17 @@ WatchesAt b x p kept w = Watches (next b x) charged (state b (p .cur) (p .cost))
 -- one more iteration, which led to p, is seen, on every bus and for every tree
 pub record WatchedBy (p : Pass) (kept : Kept) (w : Watch) (r : Turns) : Type 0 where
   pub pass : r .pass ≡ p
-  pub counts : r .watch .done ≡ w .done + 1
-  pub small : Small (r .watch)
-  pub off : w .span ≡ 0 → (r .watch .span ≡ 0) × (r .watch .cycle ≡ 0)
+  pub counts : Counts w (r .watch)
   pub spent : r .kept .spent ≤ p .cost
   pub watches : (b : Bus) (x : Tree) (C : State) → Watches (next b x) charged C (state b (kept .set) (kept .spent)) w
       → state b (p .cur) (p .cost) ≡ next b x C → WatchesAt b x p (r .kept) (r .watch)
 
--- n whole cycles of `left` iterations are skipped, and nothing is looked for any more
+-- n whole cycles of `left` iterations are skipped
 pub record SkippedBy (left : ℕ) (t r : Turns) : Type 0 where
   pub cur : r .pass .cur ≡ t .pass .cur
   pub out : r .pass .out ≡ t .pass .out
   pub kept : r .kept ≡ t .kept
-  pub skips : (n : ℕ) × Jumps (t .watch .cycle) left n × (r .watch .done ≡ t .watch .done + n * t .watch .cycle) × (r .pass .cost ≡ t .pass .cost + n * t .watch .gain)
-  pub off : (r .watch .gap ≡ 0) × (r .watch .span ≡ 0) × (r .watch .cycle ≡ 0) × (r .watch .gain ≡ 0)
+  pub skips : (n : ℕ) × Skips left (t .watch) n (r .watch) × (r .pass .cost ≡ t .pass .cost + n * t .watch .gain)
 
 -- `left` iterations of a loop's body are to come
 pub record ReadyLoop (s : List ℕ) (k : Task) (places : List ℕ) (body left : ℕ) (t : Turns) : Type 0 where
@@ -161,12 +158,7 @@ pub record ReadyLoop (s : List ℕ) (k : Task) (places : List ℕ) (body left : 
 
 -- those that were done: all, or, once a cycle is found, some of them
 pub record Unrolls (b : Bus) (body : Tree) (least left : ℕ) (t r : Turns) : Type 0 where
-  pub more : t .watch .done ≤ r .watch .done
-  pub most : r .watch .done ≤ t .watch .done + left
-  pub ends : r .watch .cycle ≡ 0 → r .watch .done ≡ t .watch .done + left
-  pub keeps : r .watch .cycle ≡ 0 → t .watch .cycle ≡ 0
-  pub off : t .watch .span ≡ 0 → t .watch .cycle ≡ 0 → (r .watch .span ≡ 0) × (r .watch .cycle ≡ 0)
+  pub goes : Goes left (t .watch) (r .watch)
   pub unrolled : UnrolledAt b body least (t .watch .done) (r .watch .done - t .watch .done) (t .pass) (r .pass)
   pub spent : r .kept .spent ≤ r .pass .cost
-  pub small : Small (r .watch)
   pub watches : WatchesAt b body (r .pass) (r .kept) (r .watch)

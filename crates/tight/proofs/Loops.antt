@@ -25,7 +25,7 @@ use Rattle.image.proofs.Walks.{valid-at}
 use Rattle.times.specs.Arrays.{tableOf, Stepped, Shifted, Fits}
 use Rattle.cycles.specs.Cycles.{Jumps}
 use Rattle.cycles.specs.declared.Watch.{Watch}
-use Rattle.cycles.proofs.Watching.{whole}
+use Rattle.cycles.proofs.Watching.{goes-none, goes-one, goes-both, whole, skips-small, skips-watches, skips-ends}
 use Rattle.tight.specs.Steps.{table, after, Roomy, Walked, Ready, ReadyRepeat, ReadyLoop, BegunAt, TurnedAt, UnrolledAt, WatchedBy, SkippedBy, Unrolls}
 use Rattle.tight.proofs.Rooms.{room-less, room-fits, room-times}
 use Rattle.tight.proofs.Parts.{as-loop}
@@ -75,26 +75,21 @@ module _ (s : List ℕ) (k : Task) (places : List ℕ) (body left : ℕ) (w : Wa
   other-ready least h l a cur' out' old' u = record {
     walkable = r .walkable;
     low = r .low;
-    few = omega (arith, r .few, u .most);
+    few = omega (arith, r .few, u .goes .most);
     size = u .size;
     size-out = u .size-out;
-    room = later-room (a .done - w .done) (left - h) (omega (arith, u .most, u .more)) _ (u .unrolled .cur);
-    small = u .small;
+    room = later-room (a .done - w .done) (left - h) (omega (arith, u .goes .most, u .goes .more)) _ (u .unrolled .cur);
+    small = u .goes .small;
     watches = u .watches;
   }
 
   -- no iteration: none is left, or a cycle is known
   pub none-unrolls : (least : ℕ) → (w .cycle ≡ 0 → left ≡ 0) → Unrolls (k .bus) x least left w cur out w cur out old
   none-unrolls least stop = record {
-    more = le-refl (w .done);
-    most = omega arith;
-    ends = λ e. omega (arith, stop e);
-    keeps = λ e. e;
-    off = λ e f. (e, f);
+    goes = goes-none left w (r .small) stop;
     size = r .size;
     size-out = r .size-out;
     unrolled = rw (sub-self (w .done)) (unrolled-none none longer longer-joins (periodOf (slotsOf (k .bus))) (after (k .bus) x) least (w .done) _ _);
-    small = r .small;
     watches = r .watches;
   }
 
@@ -103,17 +98,12 @@ module _ (s : List ℕ) (k : Task) (places : List ℕ) (body left : ℕ) (w : Wa
       → length out' ≡ 256 → TurnedAt (k .bus) least (w .done) out cur' out' → (P : ℕ) → P ≡ periodOf (slotsOf (k .bus)) → WatchedBy P cur' old w old' a
       → Unrolls (k .bus) x least left w cur out a cur' out' old'
   one-unrolls least e none-yet cur' out' old' a step size turned P is seen =
-      let one : a .done - w .done ≡ 1 = omega (arith, seen .counts) in
+      let one : a .done - w .done ≡ 1 = omega (arith, seen .counts .done) in
       record {
-        more = omega (arith, seen .counts);
-        most = omega (arith, seen .counts);
-        ends = λ z. omega (arith, seen .counts);
-        keeps = λ z. none-yet;
-        off = λ z f. seen .off z;
+        goes = goes-one left w a e none-yet (seen .counts);
         size = step .size;
         size-out = size;
         unrolled = rw one (unrolled-one none longer longer-joins (periodOf (slotsOf (k .bus))) (after (k .bus) x) least (w .done) _ _ _ _ _ (step .steps) turned);
-        small = seen .small;
         watches = seen .watches (k .bus) x (sym is) cur (r .watches) (step .steps);
       }
 
@@ -122,21 +112,16 @@ pub both-unroll : (b : Bus) (x : Tree) (least left h : ℕ) → h ≤ left → (
     → Unrolls b x least h w cur out a cur₁ out₁ old₁ → Unrolls b x least (left - h) a cur₁ out₁ q cur' out' old'
     → Unrolls b x least left w cur out q cur' out' old'
 both-unroll b x least left h l w a q cur out cur₁ out₁ old₁ cur' out' old' u v =
-    let all : (a .done - w .done) + (q .done - a .done) ≡ q .done - w .done = omega (arith, u .more, v .more) in
-    let mid : w .done + (a .done - w .done) ≡ a .done = omega (arith, u .more) in
+    let all : (a .done - w .done) + (q .done - a .done) ≡ q .done - w .done = omega (arith, u .goes .more, v .goes .more) in
+    let mid : w .done + (a .done - w .done) ≡ a .done = omega (arith, u .goes .more) in
     record {
-      more = omega (arith, u .more, v .more);
-      most = omega (arith, u .most, v .most);
-      ends = λ e. omega (arith, u .ends (v .keeps e), v .ends e);
-      keeps = λ e. u .keeps (v .keeps e);
-      off = λ e f. let g = u .off e f in v .off (g .0) (g .1);
+      goes = goes-both left h l w a q (u .goes) (v .goes);
       size = v .size;
       size-out = v .size-out;
       unrolled =
           rw (← all)
           (unrolled-both none longer longer-joins (periodOf (slotsOf b)) (after b x) least (w .done) (a .done - w .done) (q .done - a .done) _ _ _ _ _ _
           (u .unrolled) (rw mid (v .unrolled)));
-      small = v .small;
       watches = v .watches;
     }
 
@@ -165,7 +150,7 @@ module _ (s : List ℕ) (k : Task) (places : List ℕ) (node : ℕ) (l : Loop) (
   module _ (out : List ℕ) (size : length out ≡ 256) (a : Watch) (cur₁ out₁ old₁ : List ℕ)
       (u : Unrolls (k .bus) y (l .least) (l .greatest) fresh t out a cur₁ out₁ old₁) where
     pub seen-few : a .done ≤ l .greatest
-    seen-few = omega (arith, u .most)
+    seen-few = omega (arith, u .goes .most)
 
     pub seen-ready : ReadyLoop s k places (l .body) (l .greatest - a .done) a cur₁ out₁ old₁
     seen-ready =
@@ -173,12 +158,12 @@ module _ (s : List ℕ) (k : Task) (places : List ℕ) (node : ℕ) (l : Loop) (
         record {
           walkable = r .walkable;
           low = b .low;
-          few = omega (arith, r .few, u .most);
+          few = omega (arith, r .few, u .goes .most);
           size = u .size;
           size-out = u .size-out;
           room =
-              later-room s k places (l .body) (l .greatest) fresh t out t b (a .done - 0) (l .greatest - a .done) (omega (arith, u .most)) _ (u .unrolled .cur);
-          small = u .small;
+              later-room s k places (l .body) (l .greatest) fresh t out t b (a .done - 0) (l .greatest - a .done) (omega (arith, u .goes .most)) _ (u .unrolled .cur);
+          small = u .goes .small;
           watches = u .watches;
         }
 
@@ -190,20 +175,20 @@ module _ (s : List ℕ) (k : Task) (places : List ℕ) (node : ℕ) (l : Loop) (
       n = e .skips .0
 
       by-gain : table (k .bus) cur₂ ≡ shifted (n * a .gain) (table (k .bus) cur₁)
-      by-gain = rw is at (e .skips .3)
+      by-gain = rw is at (e .skips .2)
 
       fits : n * a .cycle ≤ l .greatest - a .done
-      fits = whole (l .greatest - a .done) a n (seen-ready .few) (e .skips .1)
+      fits = whole (l .greatest - a .done) a n (seen-ready .few) (e .skips .1 .jumps)
 
       pub skip-few : q .done ≤ l .greatest
-      skip-few = omega (arith, fits, e .skips .2, u .most)
+      skip-few = omega (arith, fits, e .skips .1 .done, u .goes .most)
 
       -- the table behind the skipped cycles
       skip-cur : table (k .bus) cur₂ ≡ iterate (after (k .bus) y) (n * a .cycle) (table (k .bus) cur₁)
       unfolding iterate
       skip-cur =
           split 1 n
-          (λ m. by-gain ∙ sym (multiple (after (k .bus) y) (commutes (k .bus) y) (a .cycle) (a .gain) _ (u .watches .cyclic (e .skips .1 .room m .0)) n))
+          (λ m. by-gain ∙ sym (multiple (after (k .bus) y) (commutes (k .bus) y) (a .cycle) (a .gain) _ (u .watches .cyclic (e .skips .1 .jumps .room m .0)) n))
           (λ m. let z : n ≡ 0 = omega arith in
           by-gain ∙ rw (z, zero-mul (a .gain), zero-mul (a .cycle)) (shifted-zero (table (k .bus) cur₁)))
 
@@ -216,14 +201,9 @@ module _ (s : List ℕ) (k : Task) (places : List ℕ) (node : ℕ) (l : Loop) (
         size-out = u .size-out;
         room =
             later-room s k places (l .body) (l .greatest - a .done) a cur₁ out₁ old₁ seen-ready (n * a .cycle) (l .greatest - q .done)
-            (omega (arith, fits, e .skips .2)) _ skip-cur;
-        small = record {
-          gap-most = omega (arith, e .off .0);
-          span-most = omega (arith, e .off .1);
-          cycle-most = omega (arith, e .off .2);
-          gain-most = omega (arith, e .off .3);
-        };
-        watches = record { past = λ m. absurd (omega (arith, e .off .1)); cyclic = λ m. absurd (omega (arith, e .off .2)) };
+            (omega (arith, fits, e .skips .1 .done)) _ skip-cur;
+        small = skips-small _ a n q (e .skips .1);
+        watches = skips-watches (after (k .bus) y) shifted _ a n q (e .skips .1) _ _;
       }
 
       -- unrolling the rest is unrolling all that was left
@@ -231,7 +211,7 @@ module _ (s : List ℕ) (k : Task) (places : List ℕ) (node : ℕ) (l : Loop) (
           → UnrolledAt (k .bus) y (l .least) (a .done) (l .greatest - a .done) cur₁ out₁ cur' out'
       skip-unrolled cur' out' v =
           split 1 n
-          (λ m. let j = e .skips .1 .room m in
+          (λ m. let j = e .skips .1 .jumps .room m in
           cycles-skip (after (k .bus) y) (commutes (k .bus) y) (a .cycle) (a .gain) _ (u .watches .cyclic (j .0)) (j .0) (periodOf (slotsOf (k .bus)))
           (l .least) (a .done) (l .greatest - a .done) n (j .1) _ _ _ _ (by-gain) v)
           (λ m. let z : n ≡ 0 = omega arith in
@@ -247,12 +227,11 @@ module _ (s : List ℕ) (k : Task) (places : List ℕ) (node : ℕ) (l : Loop) (
           → Unrolls (k .bus) y (l .least) (l .greatest - q .done) q cur₂ out₁ z cur' out' old'
           → Walked (k .bus) (Tree.loop (l .least) (l .greatest) y) t out'
       repeat-steps z cur' out' old' g v =
-          let o = e .off in
-          let ends : z .done ≡ q .done + (l .greatest - q .done) = v .ends (v .off (o .1) (o .2) .1) in
-          let left : z .done - q .done ≡ l .greatest - a .done - n * a .cycle = omega (arith, ends, e .skips .2, skip-few) in
-          let rest = skip-unrolled cur' out' (counted cur' out' (q .done) _ (z .done - q .done) _ (e .skips .2) left (v .unrolled)) in
+          let ends : z .done ≡ q .done + (l .greatest - q .done) = skips-ends _ a n q (e .skips .1) _ z (v .goes) in
+          let left : z .done - q .done ≡ l .greatest - a .done - n * a .cycle = omega (arith, ends, e .skips .1 .done, skip-few) in
+          let rest = skip-unrolled cur' out' (counted cur' out' (q .done) _ (z .done - q .done) _ (e .skips .1 .done) left (v .unrolled)) in
           let first = u .unrolled in
-          let whole-count : (a .done - 0) + (l .greatest - a .done) ≡ l .greatest = omega (arith, u .most) in
+          let whole-count : (a .done - 0) + (l .greatest - a .done) ≡ l .greatest = omega (arith, u .goes .most) in
           let from : 0 + (a .done - 0) ≡ a .done = omega arith in
           record {
             size = v .size-out;

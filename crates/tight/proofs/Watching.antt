@@ -25,8 +25,6 @@ pub watched-by : (P : ℕ) (cur old old' : List ℕ) (w : Watch) (same : Bool) (
     → (same ≡ true → Shifted P old gain cur) → (r .gap ≡ 0 → old' ≡ cur) → (¬ (r .gap ≡ 0) → old' ≡ old) → WatchedBy P cur old w old' r
 watched-by P cur old old' w same gain r seen is renewed kept = record {
   counts = seen .counts;
-  small = seen .small;
-  off = seen .off;
   watches = λ b x p before h s.
       watches-next (after b x) shifted (commutes b x) w same gain r seen (table b before) (table b old) (table b cur) (table b old') h s
       (λ t. rw p (is t)) (λ e. ap (table b) (renewed e)) (λ n. ap (table b) (kept n));

@@ -17,7 +17,7 @@ use Rattle.image.specs.Walks.{Walkable, Named}
 use Rattle.image.specs.declared.Task.{Task}
 use Rattle.image.specs.declared.nodes.Loop.{Loop}
 use Rattle.times.specs.Arrays.{tableOf, Stepped, Shifted}
-use Rattle.cycles.specs.Cycles.{Small, Jumps, Watches}
+use Rattle.cycles.specs.Cycles.{Small, Counts, Goes, Skips, Watches}
 use Rattle.cycles.specs.declared.Watch.{Watch}
 
 -- an array's table on a bus; the table after a tree
@@ -88,17 +88,14 @@ WatchesAt b x cur old w = Watches (after b x) shifted (table b cur) (table b old
 
 -- one more iteration, which led to `cur`, is seen, on every bus of the period P and for every tree
 pub record WatchedBy (P : ℕ) (cur old : List ℕ) (w : Watch) (old' : List ℕ) (r : Watch) : Type 0 where
-  pub counts : r .done ≡ w .done + 1
-  pub small : Small r
-  pub off : w .span ≡ 0 → (r .span ≡ 0) × (r .cycle ≡ 0)
+  pub counts : Counts w r
   pub watches : (b : Bus) (x : Tree) → periodOf (slotsOf b) ≡ P → (before : List ℕ) → WatchesAt b x before old w → Stepped b x before cur
       → WatchesAt b x cur old' r
 
--- n whole cycles of `left` iterations are skipped, and nothing is looked for any more
+-- n whole cycles of `left` iterations are skipped
 pub record SkippedBy (P left : ℕ) (w : Watch) (cur cur' : List ℕ) (r : Watch) : Type 0 where
   pub size : length cur' ≡ 256
-  pub skips : (n : ℕ) × Jumps (w .cycle) left n × (r .done ≡ w .done + n * w .cycle) × Shifted P cur (n * w .gain) cur'
-  pub off : (r .gap ≡ 0) × (r .span ≡ 0) × (r .cycle ≡ 0) × (r .gain ≡ 0)
+  pub skips : (n : ℕ) × Skips left w n r × Shifted P cur (n * w .gain) cur'
 
 -- `left` iterations of a loop's body are to come
 pub record ReadyLoop (s : List ℕ) (k : Task) (places : List ℕ) (body left : ℕ) (w : Watch) (cur out old : List ℕ) : Type 0 where
@@ -113,15 +110,10 @@ pub record ReadyLoop (s : List ℕ) (k : Task) (places : List ℕ) (body left : 
 
 -- those that were done: all, or, once a cycle is found, some of them
 pub record Unrolls (b : Bus) (body : Tree) (least left : ℕ) (w : Watch) (cur out : List ℕ) (r : Watch) (cur' out' old' : List ℕ) : Type 0 where
-  pub more : w .done ≤ r .done
-  pub most : r .done ≤ w .done + left
-  pub ends : r .cycle ≡ 0 → r .done ≡ w .done + left
-  pub keeps : r .cycle ≡ 0 → w .cycle ≡ 0
-  pub off : w .span ≡ 0 → w .cycle ≡ 0 → (r .span ≡ 0) × (r .cycle ≡ 0)
+  pub goes : Goes left w r
   pub size : length cur' ≡ 256
   pub size-out : length out' ≡ 256
   pub unrolled : UnrolledAt b body least (w .done) (r .done - w .done) cur out cur' out'
-  pub small : Small r
   pub watches : WatchesAt b body cur' old' r
 
 -- an array that holds at each offset what the arms of a branch join there

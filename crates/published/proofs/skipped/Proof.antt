@@ -22,7 +22,14 @@ add-t14 : tie.Need-add-t14
 add-t14 c = let s = c .before .before .before .before .before .before .before .before .before .before in omega (arith, whole (s .args .left) (s .args .t .watch) (c .before .before .before .before .before .before .jumps .result) (s .pre .0) (c .before .before .before .before .before .before .jumps .ensures), s .pre .0)
 
 returns : tie.Need-returns
-returns c = record { cur = refl; out = refl; kept = refl; skips = (c .before .before .before .before .before .before .jumps .result, c .before .before .before .before .before .before .jumps .ensures, refl, refl); off = (refl, refl, refl, refl) }
+returns c =
+    let j = c .before .before .before .before .before .before .jumps in
+    record {
+      cur = refl;
+      out = refl;
+      kept = refl;
+      skips = (j .result, record { jumps = j .ensures; done = refl; off = (refl, refl, refl, refl) }, refl);
+    }
 
 pub skipped-spec : {M : Type 1} → statement M
 skipped-spec = tie.close (tie.spec jumps-requires mul-t9 add-t11 mul-t13 add-t14 returns)

@@ -24,11 +24,13 @@ add-t9 : tie.Need-add-t9
 add-t9 c = let s = c .before .before .before .before .before .before in omega (arith, whole (s .args .left) (s .args .w) (c .before .before .before .before .before .jumps .result) (s .pre .1) (c .before .before .before .before .before .jumps .ensures))
 
 returns : tie.Need-returns
-returns c = record {
-  size = c .before .before .all-later .ensures .0;
-  skips = (c .before .before .before .before .before .jumps .result, c .before .before .before .before .before .jumps .ensures, refl, c .before .before .all-later .ensures .1);
-  off = (refl, refl, refl, refl);
-}
+returns c =
+    let j = c .before .before .before .before .before .jumps in
+    let a = c .before .before .all-later .ensures in
+    record {
+      size = a .0;
+      skips = (j .result, record { jumps = j .ensures; done = refl; off = (refl, refl, refl, refl) }, a .1);
+    }
 
 pub skipped-spec : {M : Type 1} → statement M
 skipped-spec =
