@@ -31,7 +31,7 @@ use Rattle.published.specs.declared.Kept.{Kept}
 use Rattle.published.specs.declared.Turns.{Turns}
 use Rattle.published.specs.Steps.{bits, after, charge, State, state, next, charged, Cyclic, Ready, ReadyRepeat, ReadyLoop, Published, BegunAt, TurnedAt, UnrolledAt, WatchedBy, SkippedBy, Unrolls}
 use Rattle.published.proofs.Parts.{as-loop, none-left, one-left, both-left}
-use Rattle.published.proofs.Watching.{multiple, multiple-cost, unrolled-skip, cyclic-of}
+use Rattle.published.proofs.Watching.{pair, multiple, multiple-cost, unrolled-skip, cyclic-of}
 
 -- ---- parts of an unrolled loop
 
@@ -107,11 +107,8 @@ module _ (s : List ℕ) (k : Task) (places : List ℕ) (body left : ℕ) (t : Tu
           watches = rw (seen .pass) (seen .watches (k .bus) x (state (k .bus) (t .pass .cur) (t .pass .cost)) (r .watches) led);
         }
       where
-        both : List Bool → ℕ → State
-        both X m = record { set = X; total = m }
-
         led : state (k .bus) (p .cur) (p .cost) ≡ next (k .bus) x (state (k .bus) (t .pass .cur) (t .pass .cost))
-        led = ap₂ both (turned .turned .cur ∙ step .exited .bits) (turned .costs ∙ ap (λ (m : ℕ). t .pass .cost + m) (step .costs))
+        led = ap₂ pair (turned .turned .cur ∙ step .exited .bits) (turned .costs ∙ ap (λ (m : ℕ). t .pass .cost + m) (step .costs))
 
 -- two parts
 pub both-unroll : (b : Bus) (x : Tree) (least left h : ℕ) → h ≤ left → (t a q : Turns) → Unrolls b x least h t a → Unrolls b x least (left - h) a q
@@ -159,11 +156,8 @@ module _ (s : List ℕ) (k : Task) (places : List ℕ) (node : ℕ) (l : Loop) (
     within-out = g .within-out (r .within);
     spent = omega arith;
     small = record { gap-most = omega arith; span-most = omega arith; cycle-most = omega arith; gain-most = omega arith };
-    watches = record { past = λ m. ap₂ both (g .begun .cur) (g .costs); cyclic = λ m. absurd (not-suc-le-zero m) };
+    watches = record { past = λ m. ap₂ pair (g .begun .cur) (g .costs); cyclic = λ m. absurd (not-suc-le-zero m) };
   }
-    where
-      both : List Bool → ℕ → State
-      both X m = record { set = X; total = m }
 
   module _ (a : Turns) (u : Unrolls (k .bus) y (l .least) (l .greatest) begun a) where
     pub seen-few : a .watch .done ≤ l .greatest

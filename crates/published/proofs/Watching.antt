@@ -27,6 +27,10 @@ use Rattle.published.specs.declared.Pass.{Pass}
 use Rattle.published.specs.declared.Kept.{Kept}
 use Rattle.published.specs.Steps.{bits, after, charge, Cyclic, State, state, next, charged, WatchedBy}
 
+-- a set's bits with a cost
+abbrev pub pair : List Bool → ℕ → State
+pair X n = record { set = X; total = n }
+
 -- sets with the same number have the same bits
 same-bits : (b : Bus) (s t : Set) → value s ≡ value t → bits b s ≡ bits b t
 unfolding bitsOf
@@ -72,11 +76,8 @@ module _ (b : Bus) (x : Tree) where
   -- ---- the set with the cost so far
 
   commutes : (q : ℕ) (C : State) → next b x (charged q C) ≡ charged q (next b x C)
-  commutes q C = ap (λ (n : ℕ). state-of (after b x (C .set)) n) (order (C .total) q (cost (equal (slotsOf b)) x (C .set)))
+  commutes q C = ap (λ (n : ℕ). pair (after b x (C .set)) n) (order (C .total) q (cost (equal (slotsOf b)) x (C .set)))
     where
-      state-of : List Bool → ℕ → State
-      state-of X n = record { set = X; total = n }
-
       order : (m q c : ℕ) → m + q + c ≡ m + c + q
       order m q c = omega arith
 
@@ -112,9 +113,6 @@ watched-by p kept kept' w same v less seen is renewed stays = record {
       watches-next (next b x) charged (commutes b x) w same (p .cost - kept .spent) v seen C (state b (kept .set) (kept .spent)) (state b (p .cur) (p .cost))
       (state b (kept' .set) (kept' .spent)) h s
       (λ t. let total : p .cost ≡ kept .spent + (p .cost - kept .spent) = omega arith in
-      ap₂ (λ (X : List Bool) (n : ℕ). both X n) (same-bits b (p .cur) (kept .set) (is t)) total)
+      ap₂ pair (same-bits b (p .cur) (kept .set) (is t)) total)
       (λ e. ap (λ (y : Kept). state b (y .set) (y .spent)) (renewed e)) (λ n. ap (λ (y : Kept). state b (y .set) (y .spent)) (stays n));
 }
-  where
-    both : List Bool → ℕ → State
-    both X n = record { set = X; total = n }

@@ -1,5 +1,4 @@
 -- The walk of the entry from the listed starts leaves the exit times.
-use borrow.Author.Needs.{needs}
 use Rattle.figures.proofs.Starting.{start-ready, times-ended}
 use Rattle.figures.proofs.exit_times.Statement.{statement}
 use Rattle.figures.proofs.exit_times.Tie as tie

@@ -1,5 +1,4 @@
 -- The cost of the entry from the set of all listed starts is the published figure.
-use borrow.Author.Needs.{needs}
 use Rattle.figures.proofs.Starting.{set-ready, cost-ended}
 use Rattle.figures.proofs.published_cost.Statement.{statement}
 use Rattle.figures.proofs.published_cost.Tie as tie

@@ -5,7 +5,7 @@ use mathlib.Core.Bool.{Bool, false, _||_}
 use lib.ListN.{getD}
 use native.Mathlib.Nat.{add-zero, zero-add, sub-zero}
 use Rattle.runs.specs.Slots.{equal}
-use Rattle.runs.specs.Nodes.{visits, visitsAll}
+use Rattle.runs.specs.Nodes.{visitsAll}
 use Rattle.runs.specs.Figures.{costAll, costAny}
 use Rattle.runs.proofs.Joins.{or-joins}
 use Rattle.bus.specs.Waits.{slotsOf}

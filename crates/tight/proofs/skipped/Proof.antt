@@ -2,7 +2,6 @@
 use mathlib.Core.Path.{refl}
 use Rattle.cycles.proofs.Watching.{product, whole}
 use native.Mathlib.Omega.{arith}
-use borrow.Author.Needs.{needs}
 use Rattle.tight.proofs.skipped.Statement.{statement}
 use Rattle.tight.proofs.skipped.Tie as tie
 
