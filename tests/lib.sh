@@ -18,5 +18,24 @@ same() { [ "$2" = "$3" ]; local s=$?; told "$1" $s; [ $s -eq 0 ] || { echo "  ex
 # counts: the closing line
 counts() { echo "$ok passed, $bad failed"; [ "$bad" -eq 0 ] && [ "$ok" -gt 0 ]; }
 
-# bytes: hexadecimal digits with blanks and '#' comments on standard input, bytes on standard output
-bytes() { perl -0777 -pe 's/#[^\n]*//g; s/\s+//g; $_ = pack("H*", $_)'; }
+# bytes [NAME]: hexadecimal digits on standard input, bytes on standard output; blanks and '#' comments are passed over. Anything else, or
+# an odd number of digits, is an error: a line on standard error begins with NAME, and no byte is written.
+bytes() {
+  perl -we '
+    use strict;
+    my ($name, $text, $digits, $line) = (shift, "", "", 0);
+    sub fail { print STDERR $name, @_, "\n"; exit 1 }
+    sub shown { my $c = shift; $c =~ /[!-~]/ ? qq("$c") : sprintf "byte %02X", ord $c }
+    while (my $n = sysread(STDIN, $text, 65536, length $text) // fail(": ", $!)) { }
+    for (split /\n/, $text) {
+      $line++;
+      s/#.*//;
+      s/\s+//g;
+      fail(", line $line: ", shown($1), " is not a hexadecimal digit") if /([^0-9A-Fa-f])/;
+      $digits .= $_;
+    }
+    fail(": an odd number of hexadecimal digits, ", length $digits, "; a byte has two") if length($digits) % 2;
+    binmode STDOUT;
+    print pack("H*", $digits) and close STDOUT or fail(": its bytes cannot be written: ", $!);
+  ' "${1:-standard input}"
+}
