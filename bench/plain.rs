@@ -347,9 +347,9 @@ fn listing(image: &[u8]) -> String {
     text
 }
 
-/// At most 16,384 bytes are read; input that cannot be read counts as ended.
-fn main() {
+/// At most 16,384 bytes are read. Nothing is listed of an input that cannot be read whole.
+fn main() -> std::io::Result<()> {
     let mut image = Vec::with_capacity(16_384);
-    let _ = std::io::stdin().take(16_384).read_to_end(&mut image);
-    let _ = std::io::stdout().write_all(listing(&image).as_bytes());
+    std::io::stdin().take(16_384).read_to_end(&mut image)?;
+    std::io::stdout().write_all(listing(&image).as_bytes())
 }

@@ -1,28 +1,28 @@
-// Both figures of the task image on standard input, as the program figure writes them.
+// Both figures of the task image on standard input, as the program figure writes them; nothing of an input that cannot be read whole.
 use slotfigures::{figures, MOST_PLACES, NO_TIME};
-use std::io::Read;
+use std::io::{Read, Result, Write};
 
-fn main() {
+fn main() -> Result<()> {
     let mut image = Vec::new();
-    std::io::stdin()
-        .take(16384)
-        .read_to_end(&mut image)
-        .expect("standard input");
+    std::io::stdin().take(16384).read_to_end(&mut image)?;
     let mut table = [NO_TIME; MOST_PLACES];
+    let mut out = std::io::stdout().lock();
     match figures(&image, &mut table) {
-        Err(r) => println!("refused {} {}", r.number, r.place),
+        Err(r) => writeln!(out, "refused {} {}", r.number, r.place),
         Ok(f) => {
-            println!(
+            writeln!(
+                out,
                 "tight {}\npublished {}\nexits {}",
                 f.tight, f.published, f.exits
-            );
+            )?;
             for (o, time) in table
                 .iter()
                 .enumerate()
                 .filter(|(_, time)| **time != NO_TIME)
             {
-                println!("{o} {time}");
+                writeln!(out, "{o} {time}")?;
             }
+            Ok(())
         }
     }
 }

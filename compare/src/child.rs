@@ -2,6 +2,8 @@
 
 use std::fs::File;
 use std::io::{Read, Seek, Write};
+use std::os::fd::OwnedFd;
+use std::os::unix::net::UnixStream;
 use std::process::{Child, Command, Stdio};
 use std::sync::Mutex;
 use std::thread::sleep;
@@ -21,8 +23,27 @@ pub enum Feed {
     FromFile { most: u64 },
     /// nothing: an end of file at once
     Nothing,
-    /// nothing: standard input is closed
-    Closed,
+    /// through a socket on which a read does not wait: once these bytes are read, a read fails
+    Stalled,
+    /// a folder: a read fails at once
+    Folder,
+}
+
+impl Feed {
+    /// Whether a read fails before so many bytes of this input are read.
+    pub fn fails(&self, input: &[u8], most: usize) -> bool {
+        match self {
+            Feed::Stalled => input.len() < most,
+            Feed::Folder => true,
+            _ => false,
+        }
+    }
+}
+
+/// What the program wrote: to standard output, and to standard error.
+pub struct Output {
+    pub written: Vec<u8>,
+    pub said: Vec<u8>,
 }
 
 pub struct Program {
@@ -59,19 +80,19 @@ impl Watched {
 }
 
 /// What the program wrote, or what went wrong.
-pub fn run(program: &Program, input: &[u8], feed: &Feed, thread: usize, watched: &Watched) -> Result<Vec<u8>, String> {
-    let mut command = match feed {
-        Feed::Closed => {
-            let mut shell = Command::new("sh");
-            shell.args(["-c", "exec \"$0\" \"$@\" <&-", &program.path]);
-            shell
-        }
-        _ => Command::new(&program.path),
-    };
-    command.args(&program.words).stdout(Stdio::piped()).stderr(Stdio::null());
+pub fn run(program: &Program, input: &[u8], feed: &Feed, thread: usize, watched: &Watched) -> Result<Output, String> {
+    let mut command = Command::new(&program.path);
+    command.args(&program.words).stdout(Stdio::piped()).stderr(Stdio::piped());
     let mut file = None;
+    let mut socket = None;
     match feed {
-        Feed::Nothing | Feed::Closed => command.stdin(Stdio::null()),
+        Feed::Nothing => command.stdin(Stdio::null()),
+        Feed::Folder => command.stdin(File::open("/").map_err(|error| format!("a folder for the input: {error}"))?),
+        Feed::Stalled => {
+            let (ours, theirs) = stalled(input).map_err(|error| format!("a socket for the input: {error}"))?;
+            socket = Some(ours);
+            command.stdin(OwnedFd::from(theirs))
+        }
         Feed::FromFile { .. } => {
             let opened = temporary_file(input, thread).map_err(|error| format!("a file for the input: {error}"))?;
             let lent = opened.try_clone().map_err(|error| format!("a file for the input: {error}"))?;
@@ -82,14 +103,15 @@ pub fn run(program: &Program, input: &[u8], feed: &Feed, thread: usize, watched:
     };
     let mut child = command.spawn().map_err(|error| format!("{}: {error}", program.path))?;
     let pipe = child.stdin.take();
-    let output = child.stdout.take();
+    let (output, errors) = (child.stdout.take(), child.stderr.take());
     *watched.places[thread].lock().unwrap() = Some(Running { child, since: Instant::now(), ended_by_us: false });
 
     // a program that has read enough may end before all is written: a broken pipe is no fault
     let still_open = pipe.and_then(|pipe| write_input(pipe, input, feed));
-    let mut written = Vec::new();
-    if let Some(output) = output {
+    let (mut written, mut said) = (Vec::new(), Vec::new());
+    if let (Some(output), Some(errors)) = (output, errors) {
         let _ = output.take(1 << 20).read_to_end(&mut written);
+        let _ = errors.take(1 << 16).read_to_end(&mut said);
     }
     let (status, ended_by_us) = loop {
         let mut place = watched.places[thread].lock().unwrap();
@@ -102,7 +124,7 @@ pub fn run(program: &Program, input: &[u8], feed: &Feed, thread: usize, watched:
         drop(place);
         sleep(Duration::from_micros(50));
     };
-    drop(still_open);
+    drop((still_open, socket));
 
     if ended_by_us {
         return Err(format!("did not end within {} s", watched.limit.as_secs()));
@@ -116,7 +138,7 @@ pub fn run(program: &Program, input: &[u8], feed: &Feed, thread: usize, watched:
             return Err(format!("read {read} bytes, more than {most}"));
         }
     }
-    Ok(written)
+    Ok(Output { written, said })
 }
 
 /// Writes the input; a pipe that is to stay open is given back.
@@ -142,6 +164,14 @@ fn write_input(mut pipe: std::process::ChildStdin, input: &[u8], feed: &Feed) ->
         Feed::LeftOpen => Some(pipe),
         _ => None,
     }
+}
+
+/// Both ends of a socket: the second has these bytes to read, and does not wait for more.
+fn stalled(bytes: &[u8]) -> std::io::Result<(UnixStream, UnixStream)> {
+    let (mut ours, theirs) = UnixStream::pair()?;
+    theirs.set_nonblocking(true)?;
+    ours.write_all(bytes)?;
+    Ok((ours, theirs))
 }
 
 /// A file with these bytes, at its beginning, and without a name.

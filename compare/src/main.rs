@@ -66,6 +66,7 @@ struct Summary {
     enumerated: usize,
     runs: u64,
     calculated: usize,
+    unread: usize,
 }
 
 fn options() -> Result<Options, String> {
@@ -141,9 +142,18 @@ fn specials() -> Vec<Test> {
 
     // "`refused 7 0` for an empty input": no byte can be read in each of these
     add("no input", &[], Feed::Nothing);
-    add("no input", &[], Feed::Closed);
     add("no input", &[], Feed::Pieces { size: 1, pause });
     add("no input", &[], Feed::FromFile { most: 0 });
+
+    // a read that fails is not the end of the input; where 16,384 bytes are read before it, it does not come up
+    add("a read fails", &[], Feed::Folder);
+    for length in 0..=twice.len() {
+        add("a read fails", &twice[..length], Feed::Stalled);
+    }
+    full.resize(reference::MOST_BYTES, 6);
+    for image in [&refused, &longest, &full[..reference::MOST_BYTES - 1].to_vec(), &full] {
+        add("a read fails", image, Feed::Stalled);
+    }
     tests
 }
 
@@ -160,7 +170,8 @@ fn readable(test: &Test) -> Vec<u8> {
 
 /// Runs one test and enters it in the summary.
 fn perform(number: usize, test: &Test, thread: usize, options: &Options, watched: &Watched, summary: &Mutex<Summary>) {
-    let answer = reference::answer(&readable(test), STEPS);
+    let fails = test.feed.fails(&test.case.image, reference::MOST_BYTES);
+    let answer = if fails { reference::unread() } else { reference::answer(&readable(test), STEPS) };
     let by_hand = match (&test.case.expected, &answer.way) {
         (Expected::Open, _) => true,
         (Expected::Accepted, way) => !matches!(way, Way::Refused(_)),
@@ -183,8 +194,12 @@ fn perform(number: usize, test: &Test, thread: usize, options: &Options, watched
     } else {
         match &got {
             Err(error) => Some(failure(true, "no answer", error)),
-            Ok(output) if *output != answer.text.as_bytes() => {
-                Some(failure(true, "a difference", &String::from_utf8_lossy(output)))
+            Ok(output) if output.written != answer.text.as_bytes() => {
+                Some(failure(true, "a difference", &String::from_utf8_lossy(&output.written)))
+            }
+            Ok(output) if fails && !output.said.ends_with(b"\n") => Some(failure(true, "no line says that a read failed", "")),
+            Ok(output) if !fails && !output.said.is_empty() => {
+                Some(failure(true, "something is said", &String::from_utf8_lossy(&output.said)))
             }
             Ok(_) => None,
         }
@@ -203,6 +218,7 @@ fn perform(number: usize, test: &Test, thread: usize, options: &Options, watched
             summary.runs += runs;
         }
         Way::Calculated => summary.calculated += 1,
+        Way::Unread => summary.unread += 1,
     }
 }
 
@@ -274,6 +290,7 @@ fn main() {
     println!("accepted: {} enumerated in {} runs, {} by calculation", summary.enumerated, summary.runs, summary.calculated);
     let refused: Vec<String> = summary.refused.iter().map(|(number, all)| format!("{number}: {all}")).collect();
     println!("refused by number: {}", refused.join(", "));
+    println!("not read whole: {}", summary.unread);
     let differences = summary.failures.iter().filter(|failure| failure.by_program).count();
     println!("wrong answers of the program: {differences} in {} tests performed", summary.done);
 
@@ -281,7 +298,7 @@ fn main() {
     let mut passed = summary.done - failed;
     // every answer of the paper that `figure` can give was met, and runs were enumerated: one test
     let met = (1..=9).all(|number| summary.refused.get(&number).copied().unwrap_or(0) >= 10);
-    if met && summary.enumerated >= 500 && summary.calculated >= 100 {
+    if met && summary.enumerated >= 500 && summary.calculated >= 100 && summary.unread >= 20 {
         passed += 1;
     } else {
         println!("too few images of some kind");

@@ -6,8 +6,9 @@ use crate::{offsets, runs};
 /// "reads at most 16,384 bytes from standard input and judges those"
 pub const MOST_BYTES: usize = 16_384;
 
-/// How an answer was found.
+/// How an answer was found. `Unread`: a read fails, so that there is none.
 pub enum Way {
+    Unread,
     Refused(u64),
     Enumerated { runs: u64 },
     Calculated,
@@ -29,6 +30,11 @@ pub fn answer(input: &[u8], steps: u64) -> Answer {
         },
         Ok(task) => figures(&task, steps),
     }
+}
+
+/// Where a read fails, no part of the input is judged.
+pub fn unread() -> Answer {
+    Answer { text: String::new(), way: Way::Unread, doubt: None }
 }
 
 fn figures(task: &Task, steps: u64) -> Answer {
