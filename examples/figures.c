@@ -20,7 +20,7 @@ int main(void) {
         for (o = 0; o < SLOTFIGURES_MOST_PLACES; o++)
             if (table[o] != SLOTFIGURES_NO_TIME) printf("%zu %" PRIu64 "\n", o, table[o]);
     }
-    if (fflush(stdout) != 0) {
+    if (fflush(stdout) != 0 || ferror(stdout)) {
         perror("standard output");
         return 1;
     }

@@ -18,16 +18,20 @@ same() { [ "$2" = "$3" ]; local s=$?; told "$1" $s; [ $s -eq 0 ] || { echo "  ex
 # counts: the closing line
 counts() { echo "$ok passed, $bad failed"; [ "$bad" -eq 0 ] && [ "$ok" -gt 0 ]; }
 
-# bytes [NAME]: hexadecimal digits on standard input, bytes on standard output; blanks and '#' comments are passed over. Anything else, or
-# an odd number of digits, is an error: a line on standard error begins with NAME, and no byte is written.
+# bytes [NAME]: hexadecimal digits on standard input, bytes on standard output; blanks, line ends and '#' comments are passed over. Anything
+# else, or an odd number of digits, is an error: a line on standard error begins with NAME, and no byte is written.
 bytes() {
-  perl -we '
+  LC_ALL=C perl -we '
     use strict;
     my ($name, $text, $digits, $line) = (shift, "", "", 0);
     sub fail { print STDERR $name, @_, "\n"; exit 1 }
     sub shown { my $c = shift; $c =~ /[!-~]/ ? qq("$c") : sprintf "byte %02X", ord $c }
-    while (my $n = sysread(STDIN, $text, 65536, length $text) // fail(": ", $!)) { }
-    for (split /\n/, $text) {
+    binmode STDIN;
+    binmode STDOUT;
+    while (my $n = sysread(STDIN, $text, 65536, length $text) // fail(": it cannot be read: ", $!)) {
+      fail(": longer than any image") if length $text > 1 << 24;
+    }
+    for (split /\r\n|\r|\n/, $text) {
       $line++;
       s/#.*//;
       s/\s+//g;
@@ -35,7 +39,6 @@ bytes() {
       $digits .= $_;
     }
     fail(": an odd number of hexadecimal digits, ", length $digits, "; a byte has two") if length($digits) % 2;
-    binmode STDOUT;
     print pack("H*", $digits) and close STDOUT or fail(": its bytes cannot be written: ", $!);
   ' "${1:-standard input}"
 }

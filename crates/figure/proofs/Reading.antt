@@ -57,7 +57,7 @@ module _ (done size : ℕ) where
   grows (pos (suc k)) h m = grows-filled (done + suc k) (ltb (done + suc k) size) refl (omega arith) (omega (arith, m))
   grows (negsuc k) h m = tt
 
-  -- and so what is read stands at the buffer's start
+  -- and so no more is read than the buffer has
   pub held : (i : Input) (buffer : List ℕ) → length buffer ≡ size → Grows i → Held i buffer
   held (Open n) buffer e g = (omega (arith, e, g), sym (length-take-le n buffer (omega (arith, e, g))))
   held (Whole n) buffer e g = (omega (arith, e, g), sym (length-take-le n buffer (omega (arith, e, g))))

@@ -19,7 +19,7 @@ afterRead done (negsuc k) size = Failed
 afterRead done (pos zero) size = Whole done
 afterRead done (pos (suc k)) size = filled (done + suc k) size
 
--- the bytes that were read stand at the start of the buffer
+-- no more is read than the buffer has
 abbrev pub Held : Input → List ℕ → Type 0
 Held (Open n) buffer = Counts n buffer
 Held (Whole n) buffer = Counts n buffer

@@ -1,4 +1,4 @@
--- What is read stands at the buffer's start, so that part of the buffer may be listed.
+-- No more is read than the buffer has, so that part of the buffer may be listed.
 use mathlib.Core.Path.{subst}
 use borrow.Author.Needs.{needs}
 use Rattle.figure.specs.Reading.{Held}

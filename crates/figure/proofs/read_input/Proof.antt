@@ -1,4 +1,4 @@
--- What is read stands at the buffer's start, so far `done` bytes. The measure is the room that is left: an input that is still open has grown.
+-- So far `done` bytes are read, no more than the buffer has. The measure is the room that is left: an input that is still open has grown.
 use mathlib.Core.Path.{_≡_, refl, sym, ap, _∙_, subst}
 use Prim.Native.Nat.{ℕ, _≤_, _-_}
 use lib.ListN.{length}
