@@ -12,6 +12,7 @@ use Rattle.runs.proofs.SlotsLaws.{equal-lawful}
 use Rattle.image.specs.Bytes.{byteAt, wordAt}
 use Rattle.image.specs.Nodes.{fieldAt, nodeOf, meant, nodeAt, startsOf, taskOf}
 use Rattle.bus.specs.Waits.{slotsOf, Ranges}
+use Rattle.bus.proofs.Ranges.{slots-sound}
 use Rattle.image.specs.Judged.{judged}
 use Rattle.image.specs.Conditions.{GoodField, Accepting}
 use Rattle.image.specs.Promise.{Starts, Fine, Sound, Standing}
@@ -89,7 +90,7 @@ accepted s t e =
     let r = bus-ranges s t a in
     let p = fewer s (t .entry + 3) (t .nodes + 2) (omega (arith, a .last)) (a .complete .passed) in
     record {
-      lawful = equal-lawful (slotsOf (t .bus)) (record { slot-pos = omega (arith, r .slot-least); core-lt = r .core-lt });
+      lawful = equal-lawful (slotsOf (t .bus)) (slots-sound (t .bus) r);
       small = small (t .bus) r;
       start = first s (t .bus) (t .starts) (a .starts) (starts-kept s t a);
       falls = falls s (t .entry) p;

@@ -13,6 +13,7 @@ use Rattle.runs.proofs.SlotsLaws.{by-case, equation7-is}
 abbrev pub SomeCase : Slots → ℕ → ℕ → Type 0
 SomeCase v e o = (w : ℕ) × WaitCase v e o w
 
+-- exactly one case holds, with its wait
 pub record OneCase (v : Slots) (e o : ℕ) : Type 0 where
   -- there is one, and its wait is Equation 7's
   pub one : WaitCase v e o (equation7 v e o)
@@ -26,6 +27,7 @@ pub slot-ends : (v : Slots) → (v .core + 1) * v .slot ≡ first v + v .slot
 slot-ends v = add-mul (v .core) 1 (v .slot) ∙ ap (λ (n : ℕ). first v + n) (one-mul (v .slot))
 
 module _ (v : Slots) (e : ℕ) (le : e ≤ v .slot) (o : ℕ) where
+  -- one holds
   exists : WaitCase v e o (equation7 v e o)
   exists =
       by-case v e o
@@ -33,6 +35,7 @@ module _ (v : Slots) (e : ℕ) (le : e ≤ v .slot) (o : ℕ) where
       (λ h k q m. subst (WaitCase v e o) (sym q) (inside (omega arith) (omega (arith, slot-ends v))))
       (λ h k q m. subst (WaitCase v e o) (sym q) (after (omega (arith, slot-ends v))))
 
+  -- no two do: two of one kind are the same, and two of different kinds cannot both be
   same : {w x : ℕ} (c : WaitCase v e o w) (d : WaitCase v e o x) → _≡_ {A = SomeCase v e o} (w, c) (x, d)
   same (before h) (before k) = ap (λ z. (first v - o, before z)) (le-prop h k)
   same (before h) (inside k l) = absurd (omega arith)
@@ -44,13 +47,14 @@ module _ (v : Slots) (e : ℕ) (le : e ≤ v .slot) (o : ℕ) where
   same (after h) (inside k l) = absurd (omega arith)
   same (after h) (after k) = ap (λ z. (first v + periodOf v - o, after z)) (le-prop h k)
 
-  -- the wait of any case that holds is Equation 7's
-  pub case-wait : (w : ℕ) → WaitCase v e o w → w ≡ equation7 v e o
-  case-wait w c = ap (λ (x : SomeCase v e o). x .0) (same c exists)
-
+-- The theorem, for every bus with a slot of at least 1 cycle and a core number below the cores.
 pub three-cases : (v : Slots) → Sound v → (e : ℕ) → 1 ≤ e → e ≤ v .slot → (o : ℕ) → o < periodOf v → OneCase v e o
 three-cases v ok e pos le o lt = record {
   one = exists v e le o;
   only = λ c d. same v e le o (c .1) (d .1);
-  clock = λ w c. subst (IsWait (equal v) e o) (sym (case-wait v e le o w c)) (equation7-is v ok e pos le o lt .0);
+  clock = λ w c. subst (λ (x : SomeCase v e o). IsWait (equal v) e o (x .0)) (same v e le o (exists v e le o) c) (equation7-is v ok e pos le o lt .0);
 }
+
+-- so that the wait of any case that holds is Equation 7's
+pub case-wait : (v : Slots) (e o : ℕ) → OneCase v e o → (w : ℕ) → WaitCase v e o w → w ≡ equation7 v e o
+case-wait v e o x w c = ap (λ (y : SomeCase v e o). y .0) (x .only (w, c) (equation7 v e o, x .one))
