@@ -1,3 +1,4 @@
+pub mod TakingOver
 pub mod OneMore
 pub mod Whole
 pub mod Entries

@@ -14,12 +14,13 @@ use Rattle.bus.specs.declared.Bus.{Bus}
 use Rattle.bus.specs.Waits.{slotsOf}
 use Rattle.image.specs.Nodes.{taskOf, treeAt}
 use Rattle.image.specs.Judged.{judged, numberOf}
-use Rattle.image.specs.Promise.{Judging, Sound}
+use Rattle.image.specs.Promise.{Judging}
 use Rattle.image.specs.declared.Refusal.{Refusal}
 use Rattle.image.specs.declared.Refusal.the-variants.{Table}
 use Rattle.image.specs.declared.Task.{Task}
 use Rattle.image.specs.declared.Verdict.{Verdict}
 use Rattle.image.specs.declared.Verdict.the-variants.{Accepted, Refused}
+use Rattle.image.proofs.Reasons.{when-accepted}
 use Rattle.image.proofs.Sounds.{accepted}
 use Rattle.figures.specs.declared.Totals.{Totals}
 use Rattle.figures.specs.declared.Answer.{Answer}
@@ -53,45 +54,51 @@ module _ (s before : List ℕ) (r : Refusal) (place : ℕ) (e : judged s ≡ Ref
 
 -- ---- an accepted image
 
--- a given answer is that of a table that is long enough
-record Whole (t : RunTask) (P : ℕ) (before : List ℕ) (f : Totals) (after : List ℕ) : Type 0 where
-  first : f .tight ≡ entryOf (tight t)
-  second : f .published ≡ published t
-  third : f .exits ≡ exitCount t
+-- numbers that are given are those of a table that is long enough
+record Whole (t : RunTask) (P : ℕ) (before : List ℕ) (tightest most exits : ℕ) (after : List ℕ) : Type 0 where
+  first : tightest ≡ entryOf (tight t)
+  second : most ≡ published t
+  third : exits ≡ exitCount t
   table : after ≡ filled t P before
 
-whole : (z : Bool) (t : RunTask) (P n place : ℕ) (before : List ℕ) (f : Totals) (after : List ℕ)
-    → given (f .tight) (f .published) (f .exits) ≡ cond z (refused n place) (figuresOf t) → after ≡ cond z before (filled t P before) → Whole t P before f after
-whole true t P n place before f after e h = absurd (let z : _≡_ {A = ℕ} 0 1 = cc in omega arith)
-whole false t P n place before f after e h = record { first = cc; second = cc; third = cc; table = h }
+whole : (z : Bool) (t : RunTask) (P n place : ℕ) (before : List ℕ) (tightest most exits : ℕ) (after : List ℕ)
+    → given tightest most exits ≡ cond z (refused n place) (figuresOf t) → after ≡ cond z before (filled t P before)
+    → Whole t P before tightest most exits after
+whole true t P n place before tightest most exits after e h = absurd (let z : _≡_ {A = ℕ} 0 1 = cc in omega arith)
+whole false t P n place before tightest most exits after e h = record { first = cc; second = cc; third = cc; table = h }
 
-module _ (s before : List ℕ) (k : Task) (places : List ℕ) (e : judged s ≡ Accepted k) (sound : Sound s k places) (r : Answer) (after : List ℕ)
-    (a : Answered s k before r after) where
-  pub given-equal : Equal s before r after
-  given-equal = record { result = rw e (a .result); table = rw e (a .table) }
+module _ (s before : List ℕ) (k : Task) (e : judged s ≡ Accepted k) where
+  -- of numbers and a table that the definitions give
+  totals : (tightest most exits : ℕ) (after : List ℕ) → given tightest most exits ≡ afterJudging s before (Accepted k) → after ≡ tableFor s before (Accepted k)
+      → Whole (taskOf s k) (periodOf k) before tightest most exits after
+  totals tightest most exits after g h =
+      whole (ltb (length before) (periodOf k)) (taskOf s k) (periodOf k) _ (length s) before tightest most exits after g h
 
-  -- of figures that are given
-  totals : (f : Totals) → r ≡ Given f → Whole (taskOf s k) (periodOf k) before f after
-  totals f g = whole (ltb (length before) (periodOf k)) (taskOf s k) (periodOf k) _ (length s) before f after (rw g at (a .result)) (a .table)
-
-  runs : (f : Totals) → r ≡ Given f → WholeRuns (taskOf s k) (f .tight) (f .published) (f .exits) after
+  -- demand 3 of them
+  pub runs : (tightest most exits : ℕ) (after : List ℕ) → given tightest most exits ≡ afterJudging s before (Accepted k) → after ≡ tableFor s before (Accepted k)
+      → WholeRuns (taskOf s k) tightest most exits after
   unfolding equal
-  runs f g =
-      let t = totals f g in
+  runs tightest most exits after g h =
+      let t = totals tightest most exits after g h in
       rw (t .first, t .second, t .third, t .table)
-      (whole-runs (taskOf s k) (accepted s k e) (sound .short) (drop (periodOf k) before))
+      (whole-runs (taskOf s k) (accepted s k e) (when-accepted s k e .short) (drop (periodOf k) before))
 
-  pub given-demand3 : Demand3 s r after
-  given-demand3 k' f e' g =
-      let same : k ≡ k' = cc in
-      subst (λ (x : Task). WholeRuns (taskOf s x) (f .tight) (f .published) (f .exits) after) same (runs f g)
+  module _ (r : Answer) (after : List ℕ) (a : Answered s k before r after) where
+    pub given-equal : Equal s before r after
+    given-equal = record { result = rw e (a .result); table = rw e (a .table) }
 
-  algorithms : (f : Totals) → r ≡ Given f → ByAlgorithms s k f
-  unfolding equal
-  algorithms f g = record {
-    figure = totals f g .second;
-    wait = λ d o. ap (λ (b : Bus). equation7 (slotsOf b) d o) (sound .bus-is);
-  }
+    pub given-demand3 : Demand3 s r after
+    given-demand3 k' f e' g =
+        let same : k ≡ k' = cc in
+        subst (λ (x : Task). WholeRuns (taskOf s x) (f .tight) (f .published) (f .exits) after) same
+        (runs (f .tight) (f .published) (f .exits) after (rw g at (a .result)) (a .table))
 
-  pub given-demand2 : Demand2 s r
-  given-demand2 k' f e' g = let same : k ≡ k' = cc in subst (λ (x : Task). ByAlgorithms s x f) same (algorithms f g)
+    algorithms : (f : Totals) → r ≡ Given f → ByAlgorithms s k f
+    unfolding equal
+    algorithms f g = record {
+      figure = totals (f .tight) (f .published) (f .exits) after (rw g at (a .result)) (a .table) .second;
+      wait = λ d o. ap (λ (b : Bus). equation7 (slotsOf b) d o) (when-accepted s k e .bus);
+    }
+
+    pub given-demand2 : Demand2 s r
+    given-demand2 k' f e' g = let same : k ≡ k' = cc in subst (λ (x : Task). ByAlgorithms s x f) same (algorithms f g)

@@ -40,15 +40,13 @@ returns-2 : tie.Need-returns-2
 returns-2 c =
     let a = c .before .before .before .before .before .before .before .before .before .before .before .before .args in
     let j = c .before .before .before .before .before .before .before .before .before .judge in
-    let k = c .before .before .before .before .before .before .verdict2 .given .0 .0 in
-    let v = c .before .before .before .before .before .before .verdict2 .given .1 in
-    let e = sym (j .ensures .is) ∙ v in
-    let g = c .before .before .given in
-    let sound = j .ensures .sound k v in (
-      given-equal (a .image .now) (a .table .now) k (j .result .places) e sound (g .result) (g .last .1 .1 .1 .0) (g .ensures),
+    let v = c .before .before .before .before .before .before .verdict2 .given in
+    let e = sym (j .ensures .is) ∙ v .1 in
+    let g = c .before .before .given in (
+      given-equal (a .image .now) (a .table .now) (v .0 .0) e (g .result) (g .last .1 .1 .1 .0) (g .ensures),
       (
-        given-demand3 (a .image .now) (a .table .now) k (j .result .places) e sound (g .result) (g .last .1 .1 .1 .0) (g .ensures),
-        given-demand2 (a .image .now) (a .table .now) k (j .result .places) e sound (g .result) (g .last .1 .1 .1 .0) (g .ensures),
+        given-demand3 (a .image .now) (a .table .now) (v .0 .0) e (g .result) (g .last .1 .1 .1 .0) (g .ensures),
+        given-demand2 (a .image .now) (a .table .now) (v .0 .0) e (g .result) (g .last .1 .1 .1 .0) (g .ensures),
       ),
     )
 
