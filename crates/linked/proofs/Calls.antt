@@ -2,8 +2,8 @@
 use borrow.Author.Tests.{lt-ltb, le-ltb}
 use mathlib.Core.Path.{_≡_, refl, sym, _∙_, ap}
 use mathlib.Core.Bool.{Bool, cond}
-use mathlib.Core.List.{List, [], _∷_}
-use lib.ListN.{length, drop, set}
+use mathlib.Core.List.{List, [], _∷_, _++_}
+use lib.ListN.{length, drop, set, List·getD-append}
 use native.Mathlib.Omega.{arith}
 use Prim.Native.Nat.{ℕ, _*_, _≤_, _<_}
 use Rattle.runs.specs.Slots.{equal}
@@ -18,7 +18,14 @@ use Rattle.figures.specs.declared.Answer.{Answer}
 use Rattle.figures.specs.declared.Answer.the-variants.{Given, Refused as NotGiven}
 use Rattle.figures.specs.Answers.{Result, resultOf, answer, tableAfter}
 use Rattle.figures.specs.Promise.{Equal, Demand3}
-use Rattle.linked.specs.Linked.{judgedInto, judgeCall, figuresInto, figuresCall, WholeFigures}
+use Rattle.graph.specs.declared.Verdict.{Verdict as TableVerdict}
+use Rattle.graph.specs.declared.Verdict.the-variants.{Accepted as TableAccepted, Refused as TableRefused}
+use Rattle.graph.specs.declared.Answer.{Answer as Finishes}
+use Rattle.graph.specs.Table.{Result as FinishesResult, resultBy as finishesBy, finishesOf, answer as finishesAnswer}
+use Rattle.graph.specs.Promise.{Equal as FinishesEqual}
+use Rattle.graph.proofs.Tables.{answer-given, finishes-length}
+use Rattle.graph.proofs.Promises.{finishing}
+use Rattle.linked.specs.Linked.{judgedInto, judgeCall, figuresInto, figuresCall, WholeFigures, finishesInto, finishesCall, WholeFinishes}
 
 -- ---- the first places of a slice
 
@@ -97,3 +104,41 @@ no-figures s table found status h k e z = absurd (omega arith)
 pub given-runs : (s table lent : List ℕ) (a : Answer) (f : Totals) (after : List ℕ) → Demand3 s a table → a ≡ Given f
     → 3 ≤ length lent → after ≡ f .tight ∷ f .published ∷ drop 2 lent → WholeFigures s 0 table (set after 2 (f .exits))
 given-runs s table lent a f after d g long h k e z = rw (h, put-third lent (f .tight) (f .published) (f .exits) long) (d k f e g)
+
+-- ---- the finishes
+
+module _ (table before lent : List ℕ) where
+  pub answer-short : length lent < 2 → finishesCall table before lent ≡ (2, before, lent)
+  unfolding finishesCall
+  answer-short h = rw (lt-ltb (length lent) 2 h)
+
+  pub finishes-short : 2 ≤ length lent → length before < 64 → finishesCall table before lent ≡ (2, before, lent)
+  unfolding finishesCall
+  finishes-short l h = rw (le-ltb (length lent) 2 l, lt-ltb (length before) 64 h)
+
+  module _ (room : 64 ≤ length before) (long : 2 ≤ length lent) where
+    -- with places enough it goes by the definition's answer
+    finishes-by : (r : FinishesResult) → finishesAnswer table ≡ r → finishesCall table before lent ≡ finishesInto r before lent
+    unfolding finishesCall
+    finishes-by r e = rw (le-ltb (length lent) 2 long, le-ltb (length before) 64 room) (ap (λ (x : FinishesResult). finishesInto x before lent) e)
+
+    module _ (a : Finishes) (e : FinishesEqual table a) (filled : List ℕ) (h : filled ≡ a .finishes ++ drop 64 before) where
+      finishes-is : (v : TableVerdict) → a .verdict ≡ v → finishesCall table before lent ≡ finishesInto (finishesBy v (a .finishes)) before lent
+      finishes-is v q = finishes-by (finishesBy v (a .finishes)) (sym e ∙ ap (λ (x : TableVerdict). finishesBy x (a .finishes)) q)
+
+      pub finishes-given : (after : List ℕ) → a .verdict ≡ TableAccepted → after ≡ 0 ∷ 0 ∷ drop 2 lent → finishesCall table before lent ≡ (0, filled, after)
+      finishes-given after v q = rw (h, q) (finishes-is TableAccepted v)
+
+      pub finishes-refused : (place : ℕ) (after : List ℕ) → a .verdict ≡ TableRefused place → after ≡ 21 ∷ place ∷ drop 2 lent
+          → finishesCall table before lent ≡ (1, filled, after)
+      finishes-refused place after v q = rw (h, q) (finishes-is (TableRefused place) v)
+
+  -- what the caller finds of an accepted table
+  pub whole-finishes : (status : ℕ) (after said : List ℕ) → finishesCall table before lent ≡ (status, after, said) → WholeFinishes table before lent status after
+  whole-finishes status after said e n ok room long =
+      let q = sym e ∙ finishes-by room long _ (answer-given table n ok) in
+      let f : after ≡ finishesOf table ++ drop 64 before = ap (λ (x : ℕ × List ℕ × List ℕ). x .1) q in (
+        ap (λ (x : ℕ × List ℕ × List ℕ). x .0) q,
+        finishing table n ok after
+            (λ i l. rw f (List·getD-append (finishesOf table) (drop 64 before) 0 i (omega (arith, finishes-length table, ok .size .most)))),
+      )

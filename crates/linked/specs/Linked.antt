@@ -4,16 +4,19 @@
 -- Statuses: 0 accepted or given, 1 refused, 2 the answer has too few places. With 2 every slice keeps its contents.
 use mathlib.Core.Path.{_≡_}
 use mathlib.Core.Bool.{cond}
-use mathlib.Core.List.{List, _∷_}
+use mathlib.Core.List.{List, _∷_, _++_}
 use lib.ListN.{length, getD, drop}
 use lib.Dec.{ltb}
-use Prim.Native.Nat.{ℕ}
+use Prim.Native.Nat.{ℕ, _≤_}
 use Rattle.image.specs.Nodes.{taskOf}
 use Rattle.image.specs.Judged.{Outcome, accepted, refused as rejected, judged, outcome}
 use Rattle.image.specs.declared.Task.{Task}
 use Rattle.image.specs.declared.Verdict.the-variants.{Accepted}
 use Rattle.figures.specs.Answers.{Result, given, refused, answer, tableAfter}
 use Rattle.figures.specs.WholeRuns.{WholeRuns}
+use Rattle.graph.specs.Table.{Result as Finishes, finished, refused as refusedTable, answer as finishesOf}
+use Rattle.graph.specs.Conditions.{AcceptedTable}
+use Rattle.graph.specs.Promise.{Finishing}
 
 -- judging: 0 and the period, or the number and the place of a refusal; later places keep their contents
 abbrev pub judgedInto : Outcome → List ℕ → ℕ × List ℕ
@@ -38,3 +41,18 @@ figuresCall image table lent =
 abbrev pub WholeFigures : List ℕ → ℕ → List ℕ → List ℕ → Type 0
 WholeFigures image status table found = (k : Task) → judged image ≡ Accepted k → status ≡ 0
     → WholeRuns (taskOf image k) (getD found 0 0) (getD found 1 0) (getD found 2 0) table
+
+-- finishes: 64 numbers, and 0 and 0, or the number and the place of a refusal; later places keep their contents
+abbrev pub finishesInto : Finishes → List ℕ → List ℕ → ℕ × List ℕ × List ℕ
+finishesInto (finished f) before lent = (0, f ++ drop 64 before, 0 ∷ 0 ∷ drop 2 lent)
+finishesInto (refusedTable number place f) before lent = (1, f ++ drop 64 before, number ∷ place ∷ drop 2 lent)
+
+-- the status, the finishes and the answer at exit
+unfoldable pub finishesCall : List ℕ → List ℕ → List ℕ → ℕ × List ℕ × List ℕ
+finishesCall table before lent =
+    cond (ltb (length lent) 2) (2, before, lent) (cond (ltb (length before) 64) (2, before, lent) (finishesInto (finishesOf table) before lent))
+
+-- an accepted table with places enough is answered, and the finishes that the caller finds are such as `Finishing` says
+abbrev pub WholeFinishes : List ℕ → List ℕ → List ℕ → ℕ → List ℕ → Type 0
+WholeFinishes table before lent status after = (n : ℕ) → AcceptedTable table n → 64 ≤ length before → 2 ≤ length lent
+    → (status ≡ 0) × Finishing table n after

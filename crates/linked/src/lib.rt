@@ -1,27 +1,31 @@
-// linked: the two functions that C and Rust programs link (include/slotfigures.h, wrapper/), over plain numbers and lent slices.
+// linked: the three functions that C and Rust programs link (include/slotfigures.h, wrapper/), over plain numbers and lent slices.
 //
-// Both ask nothing of their caller and promise that the status and each lent slice at exit equal definitions over the image's bytes
-// and the slices at entry, for accepted and refused images alike (specs/Linked.antt):
+// They ask nothing of their caller and promise that the status and each lent slice at exit equal definitions over the image's bytes, or the
+// task table's numbers, and the slices at entry, for what is accepted and what is refused alike (specs/Linked.antt):
 //   slotfigures_judge     `judgeCall`; wrong answers that it rules out: the place before the number, status 0 for a refused image
 //   slotfigures_figures   `figuresCall`; ruled out: the published figure in the tight one's place, a short answer that is written to
-// The numbers are those of `image::judge` and `figures::figures`, whose promises hold of them; `WholeFigures` repeats demand 3 of the
-// places that the caller reads.
+//   slotfigures_finishes  `finishesCall`; ruled out: another number than 21, finishes of fewer than 64 places that are written to
+// The numbers are those of `image::judge`, `figures::figures` and `graph::finishes`, whose promises hold of them; `WholeFigures` repeats
+// demand 3 of the places that the caller reads, `WholeFinishes` what finishes say of all starts, ends and whole runs.
 ghost use mathlib.Core.Path.{_≡_};
-ghost use mathlib.Core.List.{_∷_};
+ghost use mathlib.Core.List.{_∷_, _++_};
 ghost use Prim.Native.Nat.{_≤_};
 ghost use lib.ListN.{length, drop};
-ghost use Rattle.linked.specs.Linked.{judgeCall, figuresCall, WholeFigures};
+ghost use Rattle.linked.specs.Linked.{judgeCall, figuresCall, WholeFigures, finishesCall, WholeFinishes};
 use figures::Answer;
 use image::Verdict;
 
-// Status: accepted, or the figures are given.
+// Status: accepted, or the figures or finishes are given.
 const DONE: u64 = 0;
 
 // Status: refused.
 const REFUSED: u64 = 1;
 
-// Status: the answer has too few places.
+// Status: the answer or the finishes have too few places.
 const SHORT: u64 = 2;
+
+// The number of a refused task table.
+const TASK: u64 = 21;
 
 // The first two places of an answer; later ones keep their contents.
 fn put(answer: &mut [u64], first: u64, second: u64)
@@ -30,6 +34,18 @@ fn put(answer: &mut [u64], first: u64, second: u64)
 {
     answer[0] = first;
     answer[1] = second;
+}
+
+// The first 64 places take the numbers of `ends`; later ones keep their contents.
+fn put_finishes(finishes: &mut [u64], ends: [u64; 64])
+    requires { ⌜ 64 ≤ length (now finishes) ⌝ }
+    ensures { λ _. ⌜ now (finishes .exit) ≡ ends ++ drop 64 (now (finishes .entry)) ⌝ }
+{
+    let mut i: usize = 0;
+    while i < 64 {
+        finishes[i] = ends[i];
+        i += 1;
+    }
 }
 
 // Judges an image. The answer takes 0 and the period, the number of places that a table for it needs, or a refusal's number and place.
@@ -75,6 +91,39 @@ pub extern "C" fn slotfigures_figures(image: &[u8], table: &mut [u64], answer: &
         Answer::Refused(r, at) => {
             let number = image::number(r);
             put(answer, number as u64, at as u64);
+            REFUSED
+        }
+    }
+}
+
+// The finishes of a table of tasks that wait for tasks, eleven numbers to a task. The first 64 places of `finishes` take them, all 0 if the
+// table is refused; the answer takes 0 and 0, or the refusal's number and place.
+#[no_mangle]
+pub extern "C" fn slotfigures_finishes(
+    table: &[u64],
+    finishes: &mut [u64],
+    answer: &mut [u64],
+) -> u64
+    ensures equality { λ r. ⌜ finishesCall (now (table .entry)) (now (finishes .entry)) (now (answer .entry)) ≡ (r, now (finishes .exit), now (answer .exit)) ⌝ }
+    ensures waiting { λ r. ⌜ WholeFinishes (now (table .entry)) (now (finishes .entry)) (now (answer .entry)) r (now (finishes .exit)) ⌝ }
+{
+    if answer.len() < 2 {
+        return SHORT;
+    }
+    if finishes.len() < 64 {
+        return SHORT;
+    }
+    let found = graph::finishes(table);
+    let verdict = found.verdict;
+    let ends = found.finishes;
+    put_finishes(finishes, ends);
+    match verdict {
+        graph::Verdict::Accepted => {
+            put(answer, 0, 0);
+            DONE
+        }
+        graph::Verdict::Refused(place) => {
+            put(answer, TASK, place as u64);
             REFUSED
         }
     }

@@ -1,0 +1,7 @@
+pub mod Schedules
+pub mod Tables
+mod Reasons
+mod Filling
+pub mod OnTheBus
+pub mod Promises
+mod Worked

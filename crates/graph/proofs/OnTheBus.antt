@@ -1,0 +1,117 @@
+-- Runs begun at any cycle of the bus clock take at most the tight figure, if every offset is listed as a start.
+use mathlib.Core.Path.{_≡_, refl, sym, _∙_, ap, subst}
+use mathlib.Core.Bool.{true}
+use mathlib.Core.List.{List}
+use native.Mathlib.Nat.{mod-lt, add-zero}
+use native.Mathlib.Omega.{arith}
+use Prim.Native.Nat.{ℕ, zero, suc, _+_, _*_, _-_, _%_, _≤_, _<_}
+use Rattle.runs.specs.Slots.{equal}
+use Rattle.runs.specs.Clock.{on}
+use Rattle.runs.specs.Runs.{Task, placesOf, listed, Run}
+use Rattle.runs.specs.Figures.{treeOf}
+use Rattle.runs.specs.Demand3.{Accepted as RunAccepted}
+use Rattle.runs.proofs.Cases.{split}
+use Rattle.runs.proofs.OffsetsLaws.{offsets-turn}
+use Rattle.runs.proofs.ByNumber.{exec-does}
+use Rattle.runs.proofs.SomeRun.{some-execution}
+use Rattle.runs.proofs.Whole.{whole-valid}
+use Rattle.runs.proofs.OnTheClock.{does-on}
+use Rattle.image.specs.Bytes.{byteAt, wordAt}
+use Rattle.image.specs.Nodes.{taskOf, startsOf}
+use Rattle.image.specs.Judged.{judged}
+use Rattle.image.specs.Promise.{Starts}
+use Rattle.image.specs.declared.Task.{Task as Kept}
+use Rattle.image.specs.declared.Verdict.the-variants.{Accepted}
+use Rattle.image.proofs.Lists.{is-listed}
+use Rattle.image.proofs.Reasons.{when-accepted}
+use Rattle.image.proofs.Sounds.{accepted, starts-kept}
+use Rattle.figures.specs.Answers.{periodOf}
+use Rattle.figures.specs.WholeRuns.{WholeRuns}
+use Rattle.figures.proofs.Promises.{runs}
+use Rattle.graph.specs.Graph.{Graph, Permitted, InTime}
+use Rattle.graph.specs.Images.{EveryOffset, Takes, Quoted, Imaged, Ran}
+use Rattle.graph.proofs.Schedules.{some-schedule}
+
+-- ---- one task
+
+-- of figures of which demand 3 holds: a run begun at any cycle is one of the task's runs
+pub any-cycle : (t : Task) (tight published exits : ℕ) (table : List ℕ) → WholeRuns t tight published exits table → EveryOffset t
+    → (c d : ℕ) → Takes t c d → d ≤ tight
+any-cycle t tight published exits table w every c d r =
+    let (s, run) = w .some-run in
+    let pos : 0 < t .bus .period = omega (arith, w .inside s run) in
+    let below = mod-lt c pos in
+    let this : Run t (r .final) = record { from = c % t .bus .period; inside = below; isListed = every (c % t .bus .period) (omega (arith, below)); does = r .does } in
+    omega (arith, w .within-tight (r .final) this, r .cycles)
+
+-- a run begun at the cycle c that takes d cycles leaves the offset of the cycle c + d
+pub ends-right : (t : Task) (c d : ℕ) (r : Takes t c d) → r .final .at ≡ (c + d) % t .bus .period
+ends-right t c d r =
+    does-on t c (r .does) (ap (λ (n : ℕ). n % t .bus .period) (sym (add-zero c)))
+    ∙ ap (λ (n : ℕ). (c + n) % t .bus .period) (r .cycles)
+
+-- from any cycle there is a run
+some-takes : (t : Task) → RunAccepted t → (c : ℕ) → (d : ℕ) × Takes t c d
+some-takes t ok c =
+    let pos = ok .lawful .period-pos in
+    let (s, r) = some-execution (t .bus) (ok .lawful) (ok .small) (placesOf t) (offsets-turn (t .bus .period) pos) (treeOf t) (whole-valid t ok) (on (c % t .bus .period) 0) (mod-lt c pos) in (
+      s .count,
+      record {
+        final = s;
+        does = exec-does (t .bus) (placesOf t) (t .nodeAt) (suc (t .entry)) (ok .falls) (suc (t .entry)) (t .entry) (omega arith) (omega arith) (on (c % t .bus .period) 0) s r;
+        cycles = refl;
+      },
+    )
+
+-- ---- an image
+
+-- an accepted image that lists every offset, begun at any cycle, takes at most its tight figure
+pub takes-most : (s : List ℕ) (k : Kept) (time : ℕ) → Quoted s k time → (c d : ℕ) → Takes (taskOf s k) c d → d ≤ time
+takes-most s k time q c d r =
+    any-cycle (taskOf s k) time (q .published) (q .exits) _
+    (runs s (q .table) k (q .accepted) time (q .published) (q .exits) _ (sym (rw (q .accepted) at (q .figure))) refl)
+    (q .every) c d r
+
+-- P starts, ascending and below P, are the offsets themselves
+module _ (s : List ℕ) (P : ℕ) (h : Starts s P P) where
+  no-lower : (i : ℕ) → i < P → i ≤ byteAt s (9 + i)
+  no-lower zero l = omega arith
+  no-lower (suc i) l = omega (arith, no-lower i (omega arith), h .ascend i (suc i) (omega arith) l)
+
+  no-higher : (d i : ℕ) → i + d + 1 ≡ P → byteAt s (9 + i) + d < P
+  no-higher zero i e = omega (arith, h .low i (omega arith))
+  no-higher (suc d) i e = omega (arith, no-higher d (suc i) (omega arith), h .ascend i (suc i) (omega arith) (omega arith))
+
+  start-is : (i : ℕ) → i < P → byteAt s (9 + i) ≡ i
+  start-is i l = omega (arith, no-lower i l, no-higher (P - i - 1) i (omega arith))
+
+-- how a caller sees it in the bytes: an accepted image with as many starts as its period has offsets lists every offset
+pub lists-every : (s : List ℕ) (k : Kept) → judged s ≡ Accepted k → wordAt s 7 ≡ periodOf k → EveryOffset (taskOf s k)
+unfolding equal
+lists-every s k e full o l =
+    let a = when-accepted s k e in
+    let many : k .starts ≡ periodOf k = a .starts ∙ full in
+    let h : Starts s (periodOf k) (periodOf k) = rw many at (starts-kept s k a) in
+    let this : byteAt s (9 + o) ≡ o = start-is s (periodOf k) h o l in
+    subst (λ (x : ℕ). listed (startsOf s) x ≡ true) this (is-listed s 9 (wordAt s 7) o (omega (arith, full)))
+
+-- ---- a graph of images
+
+module _ (g : Graph) (n : ℕ) (image : ℕ → List ℕ) (kept : ℕ → Kept) (quoted : Imaged g n image kept) (origin : ℕ) where
+  pub in-time : (start end : ℕ → ℕ) → Ran g n image kept origin start end → InTime g n start end
+  in-time start end r = record {
+    starts = r .starts;
+    takes = λ i l. let (d, t, e) = r .runs i l in omega (arith, takes-most (image i) (kept i) (g i .time) (quoted i l) (origin + start i) d t, e);
+  }
+
+  -- how long some run of task i takes that is begun x cycles after the origin
+  chosen : (i x : ℕ) → (d : ℕ) × (i < n → Takes (taskOf (image i) (kept i)) (origin + x) d)
+  chosen i x =
+      split n i
+      (λ h. (0, λ l. absurd (omega arith)))
+      (λ h. let q = quoted i h in let (d, r) = some-takes (taskOf (image i) (kept i)) (accepted (image i) (kept i) (q .accepted)) (origin + x) in (d, λ l. r))
+
+  pub some-ran : ((i : ℕ) → i < n → Permitted i (g i)) → (start end : ℕ → ℕ) × Ran g n image kept origin start end
+  some-ran ok =
+      let (start, end, starts, ends) = some-schedule g n ok (λ i x. chosen i x .0) in
+      (start, end, record { starts = starts; runs = λ i l. (chosen i (start i) .0, chosen i (start i) .1 l, ends i l) })

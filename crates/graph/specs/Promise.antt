@@ -1,0 +1,39 @@
+-- The three parts of the promise of `finishes`, over the lent table s and the answer. Definitions only.
+use mathlib.Core.Path.{_≡_}
+use mathlib.Core.List.{List}
+use lib.ListN.{getD}
+use Prim.Native.Nat.{ℕ, _≤_, _<_}
+use Rattle.image.specs.declared.Task.{Task as Kept}
+use Rattle.graph.specs.declared.Verdict.the-variants.{Accepted, Refused}
+use Rattle.graph.specs.declared.Answer.{Answer}
+use Rattle.graph.specs.Graph.{InTime, OnTime}
+use Rattle.graph.specs.Table.{graphOf, resultOf, answer}
+use Rattle.graph.specs.Conditions.{AcceptedTable, Condition}
+use Rattle.graph.specs.Images.{Imaged, Ran}
+
+-- 1, equality: the answer is that of the definition, for refused tables too
+abbrev pub Equal : List ℕ → Answer → Type 0
+Equal s r = resultOf r ≡ answer s
+
+-- 2, refused if and only if the condition for it holds
+pub record Because (s : List ℕ) (r : Answer) : Type 0 where
+  pub because : (place : ℕ) → r .verdict ≡ Refused place → Condition s place
+  pub whenever : (place : ℕ) → Condition s place → r .verdict ≡ Refused place
+
+-- what the numbers f say of all starts and ends of the n tasks of the table s
+pub record Finishing (s : List ℕ) (n : ℕ) (f : List ℕ) : Type 0 where
+  -- "If every task starts as soon as those have ended and takes no longer than its time, none ends after its finish."
+  pub none-late : (start end : ℕ → ℕ) → InTime (graphOf s) n start end → (i : ℕ) → i < n → end i ≤ getD f i 0
+  -- where each takes exactly its time each ends at its finish, and there are such starts and ends
+  pub reached : (start end : ℕ → ℕ) → OnTime (graphOf s) n start end → (i : ℕ) → i < n → end i ≡ getD f i 0
+  pub some-schedule : (start end : ℕ → ℕ) × OnTime (graphOf s) n start end
+  -- "For tight figures as times, each image must list every offset as a start": then no whole run on the bus clock ends after its finish,
+  -- at whatever cycle the first begins; and there are such runs
+  pub whole-runs : (image : ℕ → List ℕ) (kept : ℕ → Kept) → Imaged (graphOf s) n image kept → (origin : ℕ) (start end : ℕ → ℕ)
+      → Ran (graphOf s) n image kept origin start end → (i : ℕ) → i < n → end i ≤ getD f i 0
+  pub some-runs : (image : ℕ → List ℕ) (kept : ℕ → Kept) → Imaged (graphOf s) n image kept → (origin : ℕ)
+      → (start end : ℕ → ℕ) × Ran (graphOf s) n image kept origin start end
+
+-- 3, of an accepted table: it is answered, and with such numbers
+abbrev pub Waiting : List ℕ → Answer → Type 0
+Waiting s r = (n : ℕ) → AcceptedTable s n → (r .verdict ≡ Accepted) × Finishing s n (r .finishes)
