@@ -1,12 +1,12 @@
-/* Both figures, the exit count and the table of exit offsets of a task image, from C.
+/* Both figures, the exit count and the table of exit offsets of a task image, and the finishes of tasks that wait for tasks, from C.
  *
  * Link target/staticlib/liblinked.a (`rt staticlib linked`; x86-64 Linux) beside the C library. The functions are those of
- * crates/linked/src/lib.rt, where they are proved to leave exactly what is said here, for every image and every array.
+ * crates/linked/src/lib.rt, where they are proved to leave exactly what is said here, for every image, every table and every array.
  *
  * Every array is a pointer and then its number of elements. What no proof covers is the caller's side:
  *   - a pointer is not NULL and is aligned for its type, even where the number is 0 (nothing is then read or written through it);
  *   - the array has that many elements, and the arrays of one call do not overlap;
- *   - slotfigures_figures has 1 MiB of stack, slotfigures_judge 32 KiB.
+ *   - slotfigures_figures has 1 MiB of stack, each of the others 32 KiB.
  * Nothing is kept between calls, and no memory is allocated: calls from several threads do not disturb each other.
  */
 #ifndef SLOTFIGURES_H
@@ -21,14 +21,14 @@ extern "C" {
 
 /* The status that a call returns. */
 enum {
-    SLOTFIGURES_DONE = 0,    /* the image is accepted, or its figures are given */
+    SLOTFIGURES_DONE = 0,    /* the image is accepted, or its figures or the finishes are given */
     SLOTFIGURES_REFUSED = 1, /* the answer's first two places hold the refusal's number and its place */
-    SLOTFIGURES_SHORT = 2    /* the answer has too few places; every array keeps its contents and the image is not read */
+    SLOTFIGURES_SHORT = 2    /* the answer or the finishes have too few places; every array keeps its contents and nothing is judged */
 };
 
-/* The number of a refusal. The first that holds is answered: fields are judged from the front, within one in the order
+/* The number of a refusal. Of an image the first that holds is answered: fields are judged from the front, within one in the order
  * head cut, 2, 3, 4, body cut, 5, 6; then 7, 8, 9, 10. Its place is the byte position of the field's tag for 1 to 6 and the
- * image's length for 7 to 10. */
+ * image's length for 7 to 10. Of a task table the number is 21, and its place is an entry's index, or 0 for the table's size. */
 enum {
     SLOTFIGURES_CUT = 1,        /* "cut": 1 or 2 bytes left where a field's head should stand, or a body with bytes missing */
     SLOTFIGURES_TAG = 2,        /* "tag": the first field's tag is not 1, the second's not 2, or a later one's not 3 to 7 */
@@ -39,7 +39,9 @@ enum {
     SLOTFIGURES_UNFINISHED = 7, /* "unfinished": the image ends, between fields, before a node field */
     SLOTFIGURES_DEEP = 8,       /* "deep": the entry's depth is above 24 */
     SLOTFIGURES_LONG = 9,       /* "long": the entry's visits are above 100,000 */
-    SLOTFIGURES_TABLE = 10      /* "table": the table has fewer places than the period; slotfigures_figures only */
+    SLOTFIGURES_TABLE = 10,     /* "table": the table has fewer places than the period; slotfigures_figures only */
+    SLOTFIGURES_TASK = 21       /* "task": a table size outside 1 to 64, or else the first entry with a number out of range or a
+                                   predecessor not earlier; slotfigures_finishes only */
 };
 
 /* At a place of the table: no run ends at this offset. */
@@ -47,6 +49,10 @@ enum {
 
 /* Places that are enough for every image: no period is larger. */
 #define SLOTFIGURES_MOST_PLACES 256
+
+/* Tasks of the largest table, and tasks that one may wait for. */
+#define SLOTFIGURES_MOST_TASKS 64
+#define SLOTFIGURES_MOST_WAITS 8
 
 /* Judges an image.
  *   image    the task image's bytes
@@ -64,6 +70,25 @@ uint64_t slotfigures_judge(const uint8_t *image, size_t image_length, uint64_t *
  */
 uint64_t slotfigures_figures(const uint8_t *image, size_t image_length, uint64_t *table, size_t table_length,
                              uint64_t *answer, size_t answer_length);
+
+/* An entry of a table of tasks that wait for tasks: eleven numbers. */
+struct slotfigures_task {
+    uint64_t core;                          /* 0 to 15. Tasks on one core run in table order */
+    uint64_t time;                          /* cycles, at most 6,553,500,000. It may be the tight figure of an image only if that lists
+                                               every offset below its period as a start: a task that waits may start at any */
+    uint64_t count;                         /* how many earlier tasks it waits for, 0 to 8 */
+    uint64_t waits[SLOTFIGURES_MOST_WAITS]; /* their indices, counted from 0; places behind the first `count` may hold anything */
+};
+
+/* Works out the finish of each task: its time plus the largest finish among those it waits for and the previous task on its core, or 0.
+ * If every task starts as soon as those have ended and takes no longer than its time, none ends after its finish.
+ *   table     the numbers of 1 to 64 entries, eleven to each. A length that is no multiple of eleven is that of no table (21, place 0)
+ *   finishes  at least 64 places. DONE: place i holds the finish of task i, or 0 past the table. REFUSED: 64 times 0.
+ *             Later places keep their contents.
+ *   answer    at least 2 places. DONE: 0 and 0. REFUSED: 21 and the place. Later places keep their contents.
+ */
+uint64_t slotfigures_finishes(const uint64_t *table, size_t table_length, uint64_t *finishes, size_t finishes_length,
+                              uint64_t *answer, size_t answer_length);
 
 #ifdef __cplusplus
 }

@@ -1,7 +1,9 @@
 // The safe wrapper on the cases of cases.txt, from standard input: for each, tables of 0 to period + 3 places (13 for a refused image), filled
-// before the call and compared after it; and the stack that the header promises to be enough.
+// before the call and compared after it; and the stack that the header says is enough, 1 MiB for figures and 32 KiB for each of the others.
 // Writes 'ok NAME' or 'wrong NAME: ..' for each.
-use slotfigures::{figures, judge, period, Figures, Refusal, NO_TIME};
+use slotfigures::{
+    figures, finishes, judge, period, Figures, Refusal, Task, MOST_TASKS, MOST_WAITS, NO_TIME,
+};
 use std::io::Read;
 
 // The table's words, by number.
@@ -119,20 +121,47 @@ fn deepest() -> Vec<u8> {
 }
 
 // A2 from 4 takes 8 and ends at 2, from 2 it takes 2 and ends at 4: 78,125 in turn, 8 first and last, end at 2.
-fn within_the_stack() -> bool {
-    let call = || {
-        let mut table = [NO_TIME; 10];
-        let time = 39_063 * 8 + 39_062 * 2;
-        figures(&deepest(), &mut table)
-            == Ok(Figures {
-                tight: time,
-                published: time,
-                exits: 1,
-            })
-            && table[2] == time
-    };
-    let thread = std::thread::Builder::new().stack_size(1 << 20).spawn(call);
-    thread.expect("a thread").join().expect("no panic")
+fn deepest_calls() -> bool {
+    let mut table = [NO_TIME; 10];
+    let time = 39_063 * 8 + 39_062 * 2;
+    figures(&deepest(), &mut table)
+        == Ok(Figures {
+            tight: time,
+            published: time,
+            exits: 1,
+        })
+        && table[2] == time
+}
+
+// The most nodes: a block and 255 sequences of 16 children.
+fn most_nodes() -> bool {
+    let mut image = read_image("010003020500 02000104 040003020202");
+    for _ in 1..256 {
+        image.extend([&[5, 0, 32][..], &[0; 32]].concat());
+    }
+    period(&image) == Ok(10)
+}
+
+// The largest table: 64 tasks of the largest time on one core, each waiting for as many as it may of those before it.
+fn largest_table() -> bool {
+    let earlier: Vec<usize> = (0..MOST_TASKS).collect();
+    let tasks: Vec<Task> = (0..MOST_TASKS)
+        .map(|i| Task {
+            core: 0,
+            time: 6_553_500_000,
+            waits: &earlier[i.saturating_sub(MOST_WAITS)..i],
+        })
+        .collect();
+    finishes(&tasks).map(|ends| ends[MOST_TASKS - 1]) == Ok(419_424_000_000)
+}
+
+// Whether a call gives what it should in a thread with so much stack; where it ends, the program does.
+fn within_the_stack(kib: usize, call: fn() -> bool) -> Option<String> {
+    let thread = std::thread::Builder::new()
+        .stack_size(kib << 10)
+        .spawn(call);
+    let good = thread.expect("a thread").join().expect("no panic");
+    (!good).then(|| "other numbers".to_string())
 }
 
 fn main() {
@@ -158,11 +187,10 @@ fn main() {
             wrong(&read_image(parts[1]), &read_expected(parts[2])),
         );
     }
-    let stack = if within_the_stack() {
-        None
-    } else {
-        Some("other figures".to_string())
-    };
-    tell("the deepest calls in 1 MiB of stack", stack);
+    let deepest = within_the_stack(1024, deepest_calls);
+    tell("the deepest calls in 1 MiB of stack", deepest);
+    tell("judge in 32 KiB of stack", within_the_stack(32, most_nodes));
+    let largest = within_the_stack(32, largest_table);
+    tell("finishes in 32 KiB of stack", largest);
     std::process::exit(failed as i32);
 }

@@ -1,8 +1,9 @@
-//! Both figures, the exit count and the table of exit offsets of a task image: a safe wrapper of the proved functions of
-//! `crates/linked`, which `include/slotfigures.h` describes. Every length that is passed on is a slice's own.
+//! Both figures, the exit count and the table of exit offsets of a task image, and the finishes of tasks that wait for tasks: a safe wrapper
+//! of the proved functions of `crates/linked`, which `include/slotfigures.h` describes. Every length that is passed on is a slice's own, and
+//! what is refused is refused there.
 //!
-//! [`figures`] is to have 1 MiB of stack. A spawned thread has 2 MiB unless `std::thread::Builder::stack_size` says otherwise; where the
-//! stack ends, the program does.
+//! [`figures`] is to have 1 MiB of stack, the others 32 KiB. A spawned thread has 2 MiB unless `std::thread::Builder::stack_size` says
+//! otherwise; where the stack ends, the program does.
 
 use std::fmt;
 
@@ -22,6 +23,14 @@ extern "C" {
         answer: *mut u64,
         answer_length: usize,
     ) -> u64;
+    fn slotfigures_finishes(
+        table: *const u64,
+        table_length: usize,
+        finishes: *mut u64,
+        finishes_length: usize,
+        answer: *mut u64,
+        answer_length: usize,
+    ) -> u64;
 }
 
 /// At a place of the table: no run ends at this offset.
@@ -29,6 +38,12 @@ pub const NO_TIME: u64 = u64::MAX;
 
 /// Places that are enough for every image: no period is larger.
 pub const MOST_PLACES: usize = 256;
+
+/// Tasks of the largest table that [`finishes`] accepts.
+pub const MOST_TASKS: usize = 64;
+
+/// Tasks that one task may wait for.
+pub const MOST_WAITS: usize = 8;
 
 /// Both figures, in cycles, and the number of exit offsets.
 #[derive(Clone, Copy, Debug, PartialEq, Eq)]
@@ -38,7 +53,34 @@ pub struct Figures {
     pub exits: u64,
 }
 
-/// Why no figure is given: the number, 1 to 10, its word, and the byte position that it is told for.
+/// An entry of a table of tasks that wait for tasks: its core (0 to 15), its time in cycles (at most 6,553,500,000) and the indices of the
+/// earlier tasks that it waits for (at most [`MOST_WAITS`]). Tasks on one core run in table order.
+///
+/// A tight figure may be a time only if its image lists every offset below its period as a start: it holds for the listed starts alone, and
+/// a task that waits may start anywhere.
+#[derive(Clone, Copy, Debug, PartialEq, Eq)]
+pub struct Task<'a> {
+    pub core: usize,
+    pub time: u64,
+    pub waits: &'a [usize],
+}
+
+impl Task<'_> {
+    // The entry's numbers: core, time, how many it waits for, and the first eight of those.
+    fn row(&self) -> [u64; 3 + MOST_WAITS] {
+        let mut row = [0; 3 + MOST_WAITS];
+        row[0] = self.core as u64;
+        row[1] = self.time;
+        row[2] = self.waits.len() as u64;
+        for (place, wait) in row[3..].iter_mut().zip(self.waits) {
+            *place = *wait as u64;
+        }
+        row
+    }
+}
+
+/// Why nothing is given: the number, its word and its place. The numbers 1 to 10 are told of an image, and the place is a byte position;
+/// 21 is told of a table of tasks, and the place is the index of an entry, or 0 for the table's size.
 #[derive(Clone, Copy, Debug, PartialEq, Eq)]
 pub struct Refusal {
     pub number: u64,
@@ -46,18 +88,23 @@ pub struct Refusal {
     pub place: u64,
 }
 
-const WORDS: [&str; 10] = [
-    "cut",
-    "tag",
-    "full",
-    "length",
-    "value",
-    "forward",
-    "unfinished",
-    "deep",
-    "long",
-    "table",
-];
+// The word of a refusal's number.
+fn word(number: u64) -> &'static str {
+    match number {
+        1 => "cut",
+        2 => "tag",
+        3 => "full",
+        4 => "length",
+        5 => "value",
+        6 => "forward",
+        7 => "unfinished",
+        8 => "deep",
+        9 => "long",
+        10 => "table",
+        21 => "task",
+        _ => unreachable!("no refusal has the number {number}"),
+    }
+}
 
 impl fmt::Display for Refusal {
     fn fmt(&self, f: &mut fmt::Formatter<'_>) -> fmt::Result {
@@ -67,33 +114,33 @@ impl fmt::Display for Refusal {
 
 impl std::error::Error for Refusal {}
 
-// The answer of a call whose status is 0, or the refusal in its first two places. The third status, an answer with too few places, cannot
-// come: both calls lend three.
-fn told(status: u64, answer: [u64; 3]) -> Result<[u64; 3], Refusal> {
-    match status {
+// What a call leaves in its answer if its status is 0, or the refusal in the first two places. The third status, too few places, cannot come:
+// no call needs more than the three that are lent here, nor more finishes than `finishes` lends.
+fn told(call: impl FnOnce(&mut [u64]) -> u64) -> Result<[u64; 3], Refusal> {
+    let mut answer = [0; 3];
+    match call(&mut answer) {
         0 => Ok(answer),
         1 => Err(Refusal {
             number: answer[0],
-            word: WORDS[answer[0] as usize - 1],
+            word: word(answer[0]),
             place: answer[1],
         }),
-        _ => unreachable!("an answer has three places"),
+        _ => unreachable!("there are places enough"),
     }
 }
 
 /// The period of an accepted image, which is the number of places that [`figures`] needs; or why it is refused (numbers 1 to 9).
 pub fn period(image: &[u8]) -> Result<usize, Refusal> {
-    let mut answer = [0; 3];
     // the pointers and lengths are those of an image and an answer that live through the call and do not overlap
-    let status = unsafe {
+    let [_, period, _] = told(|answer| unsafe {
         slotfigures_judge(
             image.as_ptr(),
             image.len(),
             answer.as_mut_ptr(),
             answer.len(),
         )
-    };
-    told(status, answer).map(|a| a[1] as usize)
+    })?;
+    Ok(period as usize)
 }
 
 /// Whether an image is accepted, or why it is not (numbers 1 to 9).
@@ -104,9 +151,8 @@ pub fn judge(image: &[u8]) -> Result<(), Refusal> {
 /// Both figures and the exit count of an image. Place o of the table, for each offset o below the period, then holds the longest time
 /// of a run that ends there, or [`NO_TIME`]; later places keep their contents, and after a refusal (numbers 1 to 10) all do.
 pub fn figures(image: &[u8], table: &mut [u64]) -> Result<Figures, Refusal> {
-    let mut answer = [0; 3];
     // the pointers and lengths are those of an image, a table and an answer that live through the call and do not overlap
-    let status = unsafe {
+    let [tight, published, exits] = told(|answer| unsafe {
         slotfigures_figures(
             image.as_ptr(),
             image.len(),
@@ -115,10 +161,33 @@ pub fn figures(image: &[u8], table: &mut [u64]) -> Result<Figures, Refusal> {
             answer.as_mut_ptr(),
             answer.len(),
         )
-    };
-    told(status, answer).map(|[tight, published, exits]| Figures {
+    })?;
+    Ok(Figures {
         tight,
         published,
         exits,
     })
+}
+
+/// The finish of each task of a table, in cycles: its time plus the largest finish among those that it waits for and the previous task on its
+/// core, or 0. Places past the table hold 0. If every task starts as soon as those have ended and takes no longer than its time, none ends
+/// after its finish; a tight figure may be a time only as [`Task`] says.
+///
+/// Refused (number 21): a table that has not 1 to [`MOST_TASKS`] tasks, place 0; or else the first entry with a number out of range or a wait
+/// for a task that is not earlier, place its index.
+pub fn finishes(tasks: &[Task]) -> Result<[u64; MOST_TASKS], Refusal> {
+    let table: Vec<u64> = tasks.iter().flat_map(Task::row).collect();
+    let mut finishes = [0; MOST_TASKS];
+    // the pointers and lengths are those of a table, finishes and an answer that live through the call and do not overlap
+    told(|answer| unsafe {
+        slotfigures_finishes(
+            table.as_ptr(),
+            table.len(),
+            finishes.as_mut_ptr(),
+            finishes.len(),
+            answer.as_mut_ptr(),
+            answer.len(),
+        )
+    })?;
+    Ok(finishes)
 }
