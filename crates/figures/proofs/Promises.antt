@@ -1,31 +1,31 @@
 -- The three parts of the entry's promise: from a refusal by judging, and from the answer for an accepted image.
-use mathlib.Core.Path.{_≡_, refl, sym, _∙_, ap, subst}
+use mathlib.Core.Path.{_≡_, sym, _∙_, ap, subst}
 use mathlib.Core.Bool.{Bool, true, false, cond}
 use mathlib.Core.List.{List}
 use lib.ListN.{length, drop}
 use lib.Dec.{ltb}
+use native.Mathlib.Nat.{mul-le-mul-left}
 use native.Mathlib.Omega.{arith}
 use Prim.Native.Nat.{ℕ, _≤_}
 use Rattle.runs.specs.Slots.{equal, equation7}
-use Rattle.runs.specs.Nodes.{visits}
 use Rattle.runs.specs.Runs.{Task as RunTask}
 use Rattle.runs.specs.Figures.{entryOf, tight, published, exitCount}
 use Rattle.bus.specs.declared.Bus.{Bus}
 use Rattle.bus.specs.Waits.{slotsOf}
-use Rattle.image.specs.Nodes.{taskOf, treeAt}
-use Rattle.image.specs.Judged.{judged, numberOf}
+use Rattle.image.specs.Nodes.{taskOf}
+use Rattle.image.specs.Judged.{judged}
 use Rattle.image.specs.Promise.{Judging}
 use Rattle.image.specs.declared.Refusal.{Refusal}
-use Rattle.image.specs.declared.Refusal.the-variants.{Table}
 use Rattle.image.specs.declared.Task.{Task}
 use Rattle.image.specs.declared.Verdict.{Verdict}
 use Rattle.image.specs.declared.Verdict.the-variants.{Accepted, Refused}
+use Rattle.runs.proofs.Whole.{demand3}
 use Rattle.image.proofs.Reasons.{when-accepted}
 use Rattle.image.proofs.Sounds.{accepted}
 use Rattle.figures.specs.declared.Totals.{Totals}
 use Rattle.figures.specs.declared.Answer.{Answer}
 use Rattle.figures.specs.declared.Answer.the-variants.{Given, Refused as NotGiven}
-use Rattle.figures.specs.Answers.{given, refused, resultOf, periodOf, figuresOf, filled, afterJudging, tableFor}
+use Rattle.figures.specs.Answers.{given, refused, periodOf, figuresOf, filled, afterJudging, tableFor}
 use Rattle.figures.specs.WholeRuns.{WholeRuns}
 use Rattle.figures.specs.Promise.{Equal, Demand3, Demand2, ByAlgorithms}
 use Rattle.figures.specs.Steps.{Answerable, Answered}
@@ -82,6 +82,17 @@ module _ (s before : List ℕ) (k : Task) (e : judged s ≡ Accepted k) where
       let t = totals tightest most exits after g h in
       rw (t .first, t .second, t .third, t .table)
       (whole-runs (taskOf s k) (accepted s k e) (when-accepted s k e .short) (drop (periodOf k) before))
+
+  -- and they are at most 65,535 for each of at most 100,000 visits
+  pub figures-most : (tightest most exits : ℕ) (after : List ℕ) → given tightest most exits ≡ afterJudging s before (Accepted k) → after ≡ tableFor s before (Accepted k)
+      → (tightest ≤ 6553500000) × (most ≤ 6553500000)
+  figures-most tightest most exits after g h =
+      let ok = accepted s k e in
+      let short = mul-le-mul-left 65535 (when-accepted s k e .short) in
+      let cost = demand3 (taskOf s k) ok .cost-bounded in
+      let is = totals tightest most exits after g h .second in
+      let below = runs tightest most exits after g h .below-published in
+      (omega arith, omega arith)
 
   module _ (r : Answer) (after : List ℕ) (a : Answered s k before r after) where
     pub given-equal : Equal s before r after

@@ -4,7 +4,7 @@ use mathlib.Core.Bool.{true}
 use mathlib.Core.List.{List}
 use native.Mathlib.Nat.{mod-lt, add-zero}
 use native.Mathlib.Omega.{arith}
-use Prim.Native.Nat.{ℕ, zero, suc, _+_, _*_, _-_, _%_, _≤_, _<_}
+use Prim.Native.Nat.{ℕ, zero, suc, _+_, _-_, _%_, _≤_, _<_}
 use Rattle.runs.specs.Slots.{equal}
 use Rattle.runs.specs.Clock.{on}
 use Rattle.runs.specs.Runs.{Task, placesOf, listed, Run}
@@ -25,9 +25,9 @@ use Rattle.image.specs.declared.Verdict.the-variants.{Accepted}
 use Rattle.image.proofs.Lists.{is-listed}
 use Rattle.image.proofs.Reasons.{when-accepted}
 use Rattle.image.proofs.Sounds.{accepted, starts-kept}
-use Rattle.figures.specs.Answers.{periodOf}
+use Rattle.figures.specs.Answers.{given, answer, periodOf}
 use Rattle.figures.specs.WholeRuns.{WholeRuns}
-use Rattle.figures.proofs.Promises.{runs}
+use Rattle.figures.proofs.Promises.{runs, figures-most}
 use Rattle.graph.specs.Graph.{Graph, Permitted, InTime}
 use Rattle.graph.specs.Images.{EveryOffset, Takes, Quoted, Imaged, Ran}
 use Rattle.graph.proofs.Schedules.{some-schedule}
@@ -66,11 +66,16 @@ some-takes t ok c =
 -- ---- an image
 
 -- an accepted image that lists every offset, begun at any cycle, takes at most its tight figure
-pub takes-most : (s : List ℕ) (k : Kept) (time : ℕ) → Quoted s k time → (c d : ℕ) → Takes (taskOf s k) c d → d ≤ time
+pub takes-most : (s : List ℕ) (k : Kept) (time : ℕ) (q : Quoted s k time) → (c d : ℕ) → Takes (taskOf s k) c d → d ≤ q .tight
 takes-most s k time q c d r =
-    any-cycle (taskOf s k) time (q .published) (q .exits) _
-    (runs s (q .table) k (q .accepted) time (q .published) (q .exits) _ (sym (rw (q .accepted) at (q .figure))) refl)
+    any-cycle (taskOf s k) (q .tight) (q .published) (q .exits) _
+    (runs s (q .lent) k (q .accepted) (q .tight) (q .published) (q .exits) _ (sym (rw (q .accepted) at (q .figure))) refl)
     (q .every) c d r
+
+-- every figure of an accepted image may be a time
+pub time-permitted : (s lent : List ℕ) (k : Kept) (tight published exits : ℕ) → judged s ≡ Accepted k → answer s lent ≡ given tight published exits
+    → (tight ≤ 6553500000) × (published ≤ 6553500000)
+time-permitted s lent k tight published exits e h = figures-most s lent k e tight published exits _ (sym (rw e at h)) refl
 
 -- P starts, ascending and below P, are the offsets themselves
 module _ (s : List ℕ) (P : ℕ) (h : Starts s P P) where
@@ -101,7 +106,10 @@ module _ (g : Graph) (n : ℕ) (image : ℕ → List ℕ) (kept : ℕ → Kept) 
   pub in-time : (start end : ℕ → ℕ) → Ran g n image kept origin start end → InTime g n start end
   in-time start end r = record {
     starts = r .starts;
-    takes = λ i l. let (d, t, e) = r .runs i l in omega (arith, takes-most (image i) (kept i) (g i .time) (quoted i l) (origin + start i) d t, e);
+    takes = λ i l.
+        let (d, t, e) = r .runs i l in
+        let q = quoted i l in
+        omega (arith, takes-most (image i) (kept i) (g i .time) q (origin + start i) d t, q .covers, e);
   }
 
   -- how long some run of task i takes that is begun x cycles after the origin

@@ -1,5 +1,5 @@
--- A table is refused at a place if and only if the condition for it holds, and accepted if and only if none does.
-use mathlib.Core.Path.{_≡_, refl, sym, _∙_, subst}
+-- A table is refused at a place if and only if the condition for it holds, and accepted only if all its entries are permitted.
+use mathlib.Core.Path.{_≡_, refl, subst}
 use mathlib.Core.Bool.{Bool, true, false, cond}
 use mathlib.Core.Option.{Option, none, some}
 use mathlib.Core.List.{List}
@@ -8,7 +8,7 @@ use native.Mathlib.Omega.{arith}
 use Prim.Native.Nat.{ℕ, zero, suc, _<_}
 use Rattle.runs.proofs.Cases.{split, either}
 use Rattle.graph.specs.Table.{graphOf, sizeOf, sizeOk, permitted, orElse, firstNot, refusedAt, finished, resultBy, answerBy}
-use Rattle.graph.specs.Conditions.{TableOf, Condition, no-table, bad-entry}
+use Rattle.graph.specs.Conditions.{AcceptedTable, Condition, no-table, bad-entry}
 use Rattle.graph.specs.declared.Verdict.{Verdict}
 use Rattle.graph.specs.declared.Verdict.the-variants.{Accepted, Refused}
 use Rattle.graph.specs.declared.Answer.{Answer}
@@ -73,6 +73,17 @@ module _ (s : List ℕ) where
       (first-some (λ i. permitted i (graphOf s i)) n i l (λ j m. is-permitted j (graphOf s j) (before j m))
       (either (permitted i (graphOf s i)) (λ t. absurd (there (permitted-is i (graphOf s i) t))) (λ t. t)))
 
+  -- at no place
+  all-good : refusedAt s ≡ none → AcceptedTable s (sizeOf s)
+  unfolding refusedAt
+  all-good e =
+      either (sizeOk s)
+      (λ t. record {
+        size = size-says s t;
+        entries = λ i l. permitted-is i (graphOf s i) (none-says (λ i. permitted i (graphOf s i)) (sizeOf s) (rw t at e) i l);
+      })
+      (λ t. absurd (let q : some 0 ≡ none = rw t at e in let z : _≡_ {A = ℕ} 0 1 = cc in omega arith))
+
   place-is : (v : Verdict) (f : List ℕ) (x : Option ℕ) (place : ℕ) → resultBy v f ≡ answerBy s x → v ≡ Refused place → x ≡ some place
   place-is v f none place e h = absurd (let q : resultBy (Refused place) f ≡ answerBy s none = rw h at e in let z : _≡_ {A = ℕ} 0 1 = cc in omega arith)
   place-is v f (some i) place e h = let q : resultBy (Refused place) f ≡ answerBy s (some i) = rw h at e in cc
@@ -81,8 +92,13 @@ module _ (s : List ℕ) where
   verdict-is Accepted f x place e h = absurd (let q : finished f ≡ answerBy s (some place) = rw h at e in let z : _≡_ {A = ℕ} 0 1 = cc in omega arith)
   verdict-is (Refused i) f x place e h = let q : resultBy (Refused i) f ≡ answerBy s (some place) = rw h at e in cc
 
+  none-is : (v : Verdict) (f : List ℕ) (x : Option ℕ) → resultBy v f ≡ answerBy s x → v ≡ Accepted → x ≡ none
+  none-is v f none e h = refl
+  none-is v f (some i) e h = absurd (let q : finished f ≡ answerBy s (some i) = rw h at e in let z : _≡_ {A = ℕ} 0 1 = cc in omega arith)
+
   pub reasons : (r : Answer) → Equal s r → Because s r
   reasons r e = record {
     because = λ place h. because place (place-is (r .verdict) (r .finishes) (refusedAt s) place e h);
     whenever = λ place c. verdict-is (r .verdict) (r .finishes) (refusedAt s) place e (whenever place c);
+    accepted = λ h. (sizeOf s, all-good (none-is (r .verdict) (r .finishes) (refusedAt s) e h));
   }

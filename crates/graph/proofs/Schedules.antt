@@ -1,17 +1,16 @@
 -- What a finish is worth: the equation that a reader expects, no task ends after its finish, and the finish is reached.
-use mathlib.Core.Path.{_≡_, refl, _∙_, ap, ap₂, subst}
+use mathlib.Core.Path.{_≡_, refl, ap, ap₂, subst}
 use mathlib.Core.Logic.{_⊎_, inl, inr, ⊎-elim}
 use mathlib.Core.Option.{Option, none, some}
 use lib.Dec.{eqb}
 use borrow.Author.Tests.{eqb-true, eqb-false, eq-eqb, ne-eqb}
 use native.Mathlib.Nat.{not-suc-le-zero}
-use native.Mathlib.Numerals.{add-one}
 use native.Mathlib.Omega.{arith}
 use Prim.Native.Nat.{ℕ, zero, suc, _+_, _*_, _≤_, _<_, max}
 use Rattle.runs.specs.Figures.{largest}
 use Rattle.runs.proofs.Cases.{split, either}
 use Rattle.runs.proofs.Largest.{largest-has, largest-reached, largest-same}
-use Rattle.graph.specs.Graph.{Graph, Permitted, lastOn, orZero, latest, inOrder, finish, Before, waits-for, previous, AsSoon, InTime, OnTime}
+use Rattle.graph.specs.Graph.{Graph, Permitted, lastOn, orZero, latest, inOrder, finish, Awaits, waits-for, previous, AsSoon, InTime, OnTime}
 
 -- ---- the last task on a core
 
@@ -47,41 +46,41 @@ module _ (g : Graph) (c : ℕ) where
 
 module _ (g : Graph) where
   -- each of those before counts
-  pub before-latest : (f : ℕ → ℕ) (i j : ℕ) → Before g i j → f j ≤ latest g f i
+  pub awaited-latest : (f : ℕ → ℕ) (i j : ℕ) → Awaits g i j → f j ≤ latest g f i
   unfolding latest
-  before-latest f i j (waits-for k l e) =
+  awaited-latest f i j (waits-for k l e) =
       let m = largest-has (g i .count) (λ k. f (g i .waits k)) k l in
       let q : f (g i .waits k) ≡ f j = ap f e in
       omega arith
-  before-latest f i j (previous l e nil) =
+  awaited-latest f i j (previous l e nil) =
       let q : orZero f (lastOn g (g i .core) i) ≡ f j = ap (orZero f) (last-is g (g i .core) i j l e nil) in
       omega arith
 
   -- it is 0, or that of one of them
-  pub latest-reached : (f : ℕ → ℕ) (i : ℕ) → (latest g f i ≡ 0) ⊎ ((j : ℕ) × Before g i j × (latest g f i ≡ f j))
+  pub latest-reached : (f : ℕ → ℕ) (i : ℕ) → (latest g f i ≡ 0) ⊎ ((j : ℕ) × Awaits g i j × (latest g f i ≡ f j))
   unfolding latest
   latest-reached f i = go (lastOn g (g i .core) i) refl
     where
       W : ℕ
       W = largest (g i .count) (λ k. f (g i .waits k))
 
-      waited : (b : ℕ) → b ≤ W → (max W b ≡ 0) ⊎ ((j : ℕ) × Before g i j × (max W b ≡ f j))
+      waited : (b : ℕ) → b ≤ W → (max W b ≡ 0) ⊎ ((j : ℕ) × Awaits g i j × (max W b ≡ f j))
       waited b h =
           ⊎-elim (λ z. inl (omega arith)) (λ (k, l, e). inr (g i .waits k, waits-for k l refl, omega arith))
           (largest-reached (g i .count) (λ k. f (g i .waits k)))
 
-      go : (v : Option ℕ) → lastOn g (g i .core) i ≡ v → (max W (orZero f v) ≡ 0) ⊎ ((j : ℕ) × Before g i j × (max W (orZero f v) ≡ f j))
+      go : (v : Option ℕ) → lastOn g (g i .core) i ≡ v → (max W (orZero f v) ≡ 0) ⊎ ((j : ℕ) × Awaits g i j × (max W (orZero f v) ≡ f j))
       go none e = waited 0 (omega arith)
       go (some j) e =
           let r = last-on g (g i .core) i j e in
           split (f j) W (λ h. waited (f j) h) (λ h. inr (j, previous (r .below) (r .on) (r .none-later), omega arith))
 
 module _ (g : Graph) (n : ℕ) (ok : (i : ℕ) → i < n → Permitted i (g i)) where
-  pub before-earlier : (i j : ℕ) → i < n → Before g i j → j < i
-  before-earlier i j l (waits-for k h e) = omega (arith, e, ok i l .earlier k h)
-  before-earlier i j l (previous h e nil) = h
+  pub awaited-earlier : (i j : ℕ) → i < n → Awaits g i j → j < i
+  awaited-earlier i j l (waits-for k h e) = omega (arith, e, ok i l .earlier k h)
+  awaited-earlier i j l (previous h e nil) = h
 
-  latest-same : (f h : ℕ → ℕ) (i : ℕ) → i < n → ((j : ℕ) → j < i → f j ≡ h j) → latest g f i ≡ latest g h i
+  pub latest-same : (f h : ℕ → ℕ) (i : ℕ) → i < n → ((j : ℕ) → j < i → f j ≡ h j) → latest g f i ≡ latest g h i
   unfolding latest
   latest-same f h i l e =
       ap₂ max (largest-same (g i .count) _ _ (λ k m. e (g i .waits k) (ok i l .earlier k m))) (go (lastOn g (g i .core) i) refl)
@@ -123,21 +122,25 @@ module _ (g : Graph) (n : ℕ) (ok : (i : ℕ) → i < n → Permitted i (g i)) 
       go (suc k) i h l =
           let t = ok i l .time-most in
           let e = finish-is i l in
-          ⊎-elim (λ z. omega arith) (λ (j, b, q). let m = before-earlier i j l b in let r = go k j (omega arith) (omega arith) in omega arith)
+          ⊎-elim (λ z. omega arith) (λ (j, b, q). let m = awaited-earlier i j l b in let r = go k j (omega arith) (omega arith) in omega arith)
           (latest-reached g (λ j. finish g j) i)
 
-  -- "If every task starts as soon as those have ended and takes no longer than its time, none ends after its finish."
-  pub none-late : (start end : ℕ → ℕ) → InTime g n start end → (i : ℕ) → i < n → end i ≤ finish g i
-  none-late start end h i l = go (suc i) i (omega arith) l
-    where
-      go : (k i : ℕ) → i < k → i < n → end i ≤ finish g i
-      go zero i m l = absurd (not-suc-le-zero m)
-      go (suc k) i m l =
-          let e = finish-is i l in
-          let t = h .takes i l in
-          ⊎-elim (λ z. omega arith)
-          (λ (j, b, q). let x = before-earlier i j l b in let r = go k j (omega arith) (omega arith) in let s = before-latest g (λ j. finish g j) i j b in omega arith)
-          (h .starts i l .at-once)
+  module _ (start end : ℕ → ℕ) (h : InTime g n start end) where
+    -- a task starts by its finish less its time, since those it awaits end by theirs
+    pub starts-by : (i : ℕ) → i < n → start i + g i .time ≤ finish g i
+    starts-by i l = go (suc i) i (omega arith) l
+      where
+        go : (k i : ℕ) → i < k → i < n → start i + g i .time ≤ finish g i
+        go zero i m l = absurd (not-suc-le-zero m)
+        go (suc k) i m l =
+            let e = finish-is i l in
+            ⊎-elim (λ z. omega arith)
+            (λ (j, b, q). let x = awaited-earlier i j l b in let r = go k j (omega arith) (omega arith) in let t = h .takes j (omega arith) in let s = awaited-latest g (λ j. finish g j) i j b in omega arith)
+            (h .starts i l .at-once)
+
+    -- "If every task starts as soon as those have ended and takes no longer than its time, none ends after its finish."
+    pub none-late : (i : ℕ) → i < n → end i ≤ finish g i
+    none-late i l = omega (arith, starts-by i l, h .takes i l)
 
   -- where each takes exactly its time, each ends at its finish
   pub reached : (start end : ℕ → ℕ) → OnTime g n start end → (i : ℕ) → i < n → end i ≡ finish g i
@@ -150,15 +153,8 @@ module _ (g : Graph) (n : ℕ) (ok : (i : ℕ) → i < n → Permitted i (g i)) 
           let t = h .takes i l in
           let late = none-late start end (record { starts = h .starts; takes = λ i l. omega (arith, h .takes i l) }) i l in
           ⊎-elim (λ z. omega arith)
-          (λ (j, b, q). let x = before-earlier i j l b in let r = go k j (omega arith) (omega arith) in let s = h .starts i l .ended j b in omega arith)
+          (λ (j, b, q). let x = awaited-earlier i j l b in let r = go k j (omega arith) (omega arith) in let s = h .starts i l .ended j b in omega arith)
           (latest-reached g (λ j. finish g j) i)
-
-  -- and there are such starts and ends
-  pub on-time : OnTime g n (λ i. latest g (λ j. finish g j) i) (λ i. finish g i)
-  on-time = record {
-    starts = λ i l. record { ended = λ j b. before-latest g (λ j. finish g j) i j b; at-once = latest-reached g (λ j. finish g j) i };
-    takes = λ i l. omega (arith, finish-is i l);
-  }
 
   -- There are starts and ends for all times that the tasks may take, even where those depend on the start: `took i x` is the time of task i
   -- begun at x.
@@ -167,7 +163,7 @@ module _ (g : Graph) (n : ℕ) (ok : (i : ℕ) → i < n → Permitted i (g i)) 
   some-schedule took = (
     start,
     end,
-    (λ i l. record { ended = λ j b. before-latest g end i j b; at-once = latest-reached g end i }),
+    (λ i l. record { ended = λ j b. awaited-latest g end i j b; at-once = latest-reached g end i }),
     (λ i l. in-order-is (λ i x. x + took i x) i l),
   )
     where

@@ -5,7 +5,7 @@ use mathlib.Core.Option.{none, some}
 use mathlib.Core.List.{List}
 use lib.ListN.{length, getD, replicate}
 use lib.Seq.{ext-getD}
-use lib.Dec.{leb, ltb}
+use lib.Dec.{eqb, leb, ltb}
 use borrow.Author.Tests.{leb-true, lt-leb, le-leb, ltb-true, lt-ltb, le-ltb, eqb-true, eq-eqb, ne-eqb}
 use native.Mathlib.Nat.{not-suc-le-zero}
 use native.Mathlib.Numerals.{add-one}
@@ -123,8 +123,8 @@ module _ (s : List ℕ) where
   pub size-says : sizeOk s ≡ true → TableOf s (sizeOf s)
   unfolding sizeOk
   size-says e =
-      let p = both _ _ e in
-      let q = both _ _ (p .1) in
+      let p = both (leb 1 (sizeOf s)) (leb (sizeOf s) 64 && eqb (11 * sizeOf s) (length s)) e in
+      let q = both (leb (sizeOf s) 64) (eqb (11 * sizeOf s) (length s)) (p .1) in
       record { least = leb-true _ _ (p .0); most = omega (arith, leb-true (sizeOf s) 64 (q .0)); rows = sym (eqb-true _ _ (q .1)) }
 
   module _ (n : ℕ) (t : TableOf s n) where

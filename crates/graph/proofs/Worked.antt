@@ -1,10 +1,23 @@
--- Worked tables, each worked out from the definitions.
+-- Worked tables, and an image whose tight figure may be a time, worked out from the definitions.
 use mathlib.Core.Path.{_≡_, refl}
 use mathlib.Core.Option.{none, some}
 use mathlib.Core.List.{List, [], _∷_, _++_}
+use lib.ListN.{replicate}
+use native.Mathlib.Omega.{arith}
 use Prim.Native.Nat.{ℕ}
+use Rattle.runs.specs.Slots.{equal, equation7}
+use Rattle.runs.specs.Nodes.{trees, treeBy, treeTo, tree, depth, visits}
+use Rattle.runs.specs.Carried.{carried}
+use Rattle.runs.specs.Figures.{startTimes, startSet, longer, later, longestOf, cost, entryOf, held, sum}
+use Rattle.image.specs.Bytes.{wordAt, words, bytes}
+use Rattle.image.specs.Fields.{tagOk, lengthOk, busOk, startsOk, plainOk, blockOk, loopOk, valueOk, below, childrenOk, fieldOf}
+use Rattle.image.specs.Nodes.{fieldAt, nodeFrom, meant, nodeAt}
+use Rattle.image.specs.Judged.{scanFrom, scan, wholeOf, judged}
+use Rattle.image.specs.declared.Task.{Task as Kept}
 use Rattle.graph.specs.Graph.{finish}
 use Rattle.graph.specs.Table.{graphOf, refusedAt}
+use Rattle.graph.specs.Images.{Quoted}
+use Rattle.graph.proofs.OnTheBus.{lists-every}
 
 -- a task's row: core, time, how many it waits for, and 8 places
 abbrev task : ℕ → ℕ → ℕ → ℕ → ℕ → List ℕ
@@ -44,4 +57,24 @@ worked = record {
   nine = refl;
   time-over = refl;
   time-most = refl;
+}
+
+-- "A2 from all ten offsets": an access of 2 cycles takes at most 8, from wherever it begins. Such images there are.
+abbrev a2 : List ℕ
+a2 = 1 ∷ 0 ∷ 3 ∷ 2 ∷ 5 ∷ 0 ∷ 2 ∷ 0 ∷ 10 ∷ 0 ∷ 1 ∷ 2 ∷ 3 ∷ 4 ∷ 5 ∷ 6 ∷ 7 ∷ 8 ∷ 9 ∷ 4 ∷ 0 ∷ 3 ∷ 2 ∷ 2 ∷ 2 ∷ []
+
+abbrev kept : Kept
+kept = record { bus = record { cores = 2; slot = 5; core = 0 }; starts = 10; nodes = 1; entry = 0 }
+
+quoted : Quoted a2 kept 8
+unfolding wordAt words bytes tagOk lengthOk busOk startsOk plainOk blockOk loopOk valueOk below childrenOk fieldOf fieldAt nodeFrom meant nodeAt trees treeBy treeTo tree depth visits scanFrom scan wholeOf judged equal equation7 carried startTimes startSet longer later longestOf cost entryOf held sum
+quoted = record {
+  accepted = refl;
+  every = lists-every a2 kept refl refl;
+  lent = replicate 10 0;
+  tight = 8;
+  published = 8;
+  exits = 4;
+  figure = refl;
+  covers = omega arith;
 }

@@ -1,5 +1,5 @@
--- A graph of tasks that wait for tasks (request W12 of document 02; section 2.2 of 000): who comes before whom, the finish of a task, and
--- what starts and ends it is about. Tasks are numbered from 0 in table order. Definitions only.
+-- A graph of tasks that wait for tasks (request W12 of document 02; section 2.2 of 000): the finish of a task, and which starts and ends the
+-- promise speaks of. Tasks are numbered from 0 in table order. Definitions only.
 use mathlib.Core.Path.{_≡_}
 use mathlib.Core.Bool.{cond}
 use mathlib.Core.Logic.{_⊎_}
@@ -58,16 +58,16 @@ finish g i = inOrder (λ f j. g j .time + latest g f j) (suc i) i
 
 -- ---- starts and ends; nothing that works a finish out occurs here
 
--- Before g i j: task i starts only when task j has ended, since i waits for j, or since j is the previous task on its core ("Tasks on one
+-- Awaits g i j: task i starts only when task j has ended, since i waits for j, or since j is the previous task on its core ("Tasks on one
 -- core run in table order")
-pub data Before (g : Graph) (i : ℕ) : ℕ → Type 0 where
-  waits-for : {j : ℕ} (k : ℕ) → k < g i .count → g i .waits k ≡ j → Before g i j
-  previous : {j : ℕ} → j < i → g j .core ≡ g i .core → ((k : ℕ) → j < k → k < i → g k .core ≡ g i .core → ⊥) → Before g i j
+pub data Awaits (g : Graph) (i : ℕ) : ℕ → Type 0 where
+  waits-for : {j : ℕ} (k : ℕ) → k < g i .count → g i .waits k ≡ j → Awaits g i j
+  previous : {j : ℕ} → j < i → g j .core ≡ g i .core → ((k : ℕ) → j < k → k < i → g k .core ≡ g i .core → ⊥) → Awaits g i j
 
 -- "starts as soon as those have ended": all of them have ended when task i starts, and it starts where one of them ends, or at 0
 pub record AsSoon (g : Graph) (start end : ℕ → ℕ) (i : ℕ) : Type 0 where
-  pub ended : (j : ℕ) → Before g i j → end j ≤ start i
-  pub at-once : (start i ≡ 0) ⊎ ((j : ℕ) × Before g i j × (start i ≡ end j))
+  pub ended : (j : ℕ) → Awaits g i j → end j ≤ start i
+  pub at-once : (start i ≡ 0) ⊎ ((j : ℕ) × Awaits g i j × (start i ≡ end j))
 
 -- n tasks of which each "starts as soon as those have ended and takes no longer than its time"
 pub record InTime (g : Graph) (n : ℕ) (start end : ℕ → ℕ) : Type 0 where

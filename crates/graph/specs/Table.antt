@@ -37,11 +37,12 @@ unfoldable pub permitted : ℕ → Entry → Bool
 unfolding allBelow
 permitted i e = leb (e .core) 15 && (leb (e .time) 6553500000 && (leb (e .count) 8 && allBelow (e .count) (e .waits) i))
 
--- the first number below n at which f is not true
+-- the first of two, if there is one
 abbrev pub orElse : Option ℕ → Option ℕ → Option ℕ
 orElse none v = v
 orElse (some i) v = some i
 
+-- the first number below n at which f is not true
 unfoldable pub firstNot : ℕ → (ℕ → Bool) → Option ℕ
 firstNot zero f = none
 firstNot (suc n) f = orElse (firstNot n f) (cond (f n) none (some n))
@@ -62,6 +63,7 @@ pub data Result : Type 0 where
 abbrev pub taskNumber : ℕ
 taskNumber = 21
 
+-- of what the program answers
 abbrev pub resultBy : Verdict → List ℕ → Result
 resultBy Accepted finishes = finished finishes
 resultBy (Refused place) finishes = refused taskNumber place finishes
@@ -74,10 +76,12 @@ unfoldable pub finishesOf : List ℕ → List ℕ
 unfolding row finish
 finishesOf s = row 64 (λ i. cond (ltb i (sizeOf s)) (finish (graphOf s) i) 0)
 
+-- of a table that is refused
 unfoldable pub noFinishes : List ℕ
 unfolding row
 noFinishes = row 64 (λ i. 0)
 
+-- where the table is refused at a place, or at none
 abbrev pub answerBy : List ℕ → Option ℕ → Result
 answerBy s none = finished (finishesOf s)
 answerBy s (some place) = refused taskNumber place noFinishes

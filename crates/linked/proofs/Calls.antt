@@ -1,4 +1,4 @@
--- What each return of the two calls leaves is what the definitions say.
+-- What each return of the calls leaves is what the definitions say.
 use borrow.Author.Tests.{lt-ltb, le-ltb}
 use mathlib.Core.Path.{_≡_, refl, sym, _∙_, ap}
 use mathlib.Core.Bool.{Bool, cond}
@@ -20,7 +20,7 @@ use Rattle.figures.specs.Answers.{Result, resultOf, answer, tableAfter}
 use Rattle.figures.specs.Promise.{Equal, Demand3}
 use Rattle.graph.specs.declared.Verdict.{Verdict as TableVerdict}
 use Rattle.graph.specs.declared.Verdict.the-variants.{Accepted as TableAccepted, Refused as TableRefused}
-use Rattle.graph.specs.declared.Answer.{Answer as Finishes}
+use Rattle.graph.specs.declared.Answer.{Answer as FinishesFound}
 use Rattle.graph.specs.Table.{Result as FinishesResult, resultBy as finishesBy, finishesOf, answer as finishesAnswer}
 use Rattle.graph.specs.Promise.{Equal as FinishesEqual}
 use Rattle.graph.proofs.Tables.{answer-given, finishes-length}
@@ -122,7 +122,7 @@ module _ (table before lent : List ℕ) where
     unfolding finishesCall
     finishes-by r e = rw (le-ltb (length lent) 2 long, le-ltb (length before) 64 room) (ap (λ (x : FinishesResult). finishesInto x before lent) e)
 
-    module _ (a : Finishes) (e : FinishesEqual table a) (filled : List ℕ) (h : filled ≡ a .finishes ++ drop 64 before) where
+    module _ (a : FinishesFound) (e : FinishesEqual table a) (filled : List ℕ) (h : filled ≡ a .finishes ++ drop 64 before) where
       finishes-is : (v : TableVerdict) → a .verdict ≡ v → finishesCall table before lent ≡ finishesInto (finishesBy v (a .finishes)) before lent
       finishes-is v q = finishes-by (finishesBy v (a .finishes)) (sym e ∙ ap (λ (x : TableVerdict). finishesBy x (a .finishes)) q)
 

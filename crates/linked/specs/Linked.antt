@@ -1,7 +1,8 @@
--- What a caller from C or Rust finds after a call: the status and each lent slice at exit, over the image's bytes and the slices at
--- entry. Definitions only; the verdict is `outcome` of crate `image`, the figures and the table `answer` and `tableAfter` of `figures`.
+-- What a caller from C or Rust finds after a call: the status and each lent slice at exit, over the image's bytes, or the task table's numbers,
+-- and the slices at entry. Definitions only; the verdict is `outcome` of crate `image`, the figures and the table `answer` and `tableAfter` of
+-- `figures`, the finishes `answer` of `graph`.
 --
--- Statuses: 0 accepted or given, 1 refused, 2 the answer has too few places. With 2 every slice keeps its contents.
+-- Statuses: 0 accepted or given, 1 refused, 2 the answer or the finishes have too few places. With 2 every slice keeps its contents.
 use mathlib.Core.Path.{_≡_}
 use mathlib.Core.Bool.{cond}
 use mathlib.Core.List.{List, _∷_, _++_}
@@ -14,7 +15,7 @@ use Rattle.image.specs.declared.Task.{Task}
 use Rattle.image.specs.declared.Verdict.the-variants.{Accepted}
 use Rattle.figures.specs.Answers.{Result, given, refused, answer, tableAfter}
 use Rattle.figures.specs.WholeRuns.{WholeRuns}
-use Rattle.graph.specs.Table.{Result as Finishes, finished, refused as refusedTable, answer as finishesOf}
+use Rattle.graph.specs.Table.{Result as FinishesResult, finished, refused as refusedTable, answer as finishesAnswer}
 use Rattle.graph.specs.Conditions.{AcceptedTable}
 use Rattle.graph.specs.Promise.{Finishing}
 
@@ -43,14 +44,14 @@ WholeFigures image status table found = (k : Task) → judged image ≡ Accepted
     → WholeRuns (taskOf image k) (getD found 0 0) (getD found 1 0) (getD found 2 0) table
 
 -- finishes: 64 numbers, and 0 and 0, or the number and the place of a refusal; later places keep their contents
-abbrev pub finishesInto : Finishes → List ℕ → List ℕ → ℕ × List ℕ × List ℕ
+abbrev pub finishesInto : FinishesResult → List ℕ → List ℕ → ℕ × List ℕ × List ℕ
 finishesInto (finished f) before lent = (0, f ++ drop 64 before, 0 ∷ 0 ∷ drop 2 lent)
 finishesInto (refusedTable number place f) before lent = (1, f ++ drop 64 before, number ∷ place ∷ drop 2 lent)
 
 -- the status, the finishes and the answer at exit
 unfoldable pub finishesCall : List ℕ → List ℕ → List ℕ → ℕ × List ℕ × List ℕ
 finishesCall table before lent =
-    cond (ltb (length lent) 2) (2, before, lent) (cond (ltb (length before) 64) (2, before, lent) (finishesInto (finishesOf table) before lent))
+    cond (ltb (length lent) 2) (2, before, lent) (cond (ltb (length before) 64) (2, before, lent) (finishesInto (finishesAnswer table) before lent))
 
 -- an accepted table with places enough is answered, and the finishes that the caller finds are such as `Finishing` says
 abbrev pub WholeFinishes : List ℕ → List ℕ → List ℕ → ℕ → List ℕ → Type 0

@@ -1,5 +1,5 @@
--- A run keeps to the clock: begun at the cycle c, its offset is (c + count) mod P after whatever it executed, so a task that starts when
--- another ends starts at the offset that the other left.
+-- A run keeps to the clock: begun at the cycle c, its offset is (c + count) mod P after whatever it executed. So on one bus a task that starts
+-- when another ends starts at the offset that the other left.
 use mathlib.Core.Path.{_≡_, _∙_, ap}
 use mathlib.Core.List.{List}
 use native.Mathlib.Nat.{mod-add-mod}

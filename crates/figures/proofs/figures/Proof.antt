@@ -1,6 +1,6 @@
 -- Judging's refusals are passed on; for an accepted image the answer is `given`'s. The three parts follow by the laws of Promises.
 use borrow.Author.Needs.{needs}
-use mathlib.Core.Path.{_≡_, sym, _∙_}
+use mathlib.Core.Path.{sym, _∙_}
 use Rattle.figures.proofs.Promises.{answerable, refused-equal, refused-demand3, refused-demand2, given-equal, given-demand3, given-demand2}
 use Rattle.figures.proofs.figures.Statement.{statement}
 use Rattle.figures.proofs.figures.Tie as tie
