@@ -1,13 +1,13 @@
-/* By when tasks that wait for tasks start and end, the whole way from their images: finishes CORE IMAGE WAITS [CORE IMAGE WAITS ..]
- * Three words to a task: its core, the file of its task image (bytes), and the indices of the earlier tasks that it waits for, with commas, or
- * - for none. Its time is the tight figure of its image. */
+/* By when tasks that wait for tasks start and end, the whole way from their images: finishes IMAGE WAITS [IMAGE WAITS ..]
+ * Two words to a task: the file of its task image (bytes), and the indices of the earlier tasks that it waits for, with commas, or - for none.
+ * Its core is that of its image, and its time the image's tight figure. */
 #include "slotfigures.h"
 #include <inttypes.h>
 #include <stdio.h>
 #include <stdlib.h>
 #include <string.h>
 
-/* the decimal number at *s, which then stands behind it; or 0, if there is none of 64 bits */
+/* reads the decimal number at *s into *n and moves *s behind it; 0, if there is none or it needs more than 64 bits */
 static int number(const char **s, uint64_t *n) {
     const char *first = *s;
     for (*n = 0; **s >= '0' && **s <= '9'; ++*s) {
@@ -18,10 +18,9 @@ static int number(const char **s, uint64_t *n) {
     return *s != first;
 }
 
-/* the core and the waits of a task, which is all 0 before; or 0, if the words say none. An entry has room for eight waits; that there are no more
- * the library judges, by their count */
-static int read_words(const char *core, const char *waits, struct slotfigures_task *task) {
-    if (!number(&core, &task->core) || *core != '\0') return 0;
+/* reads the waits of a task, which is all 0 before; 0, if the word says none. An entry has room for eight; that there are no more the library
+ * judges, by their count */
+static int read_waits(const char *waits, struct slotfigures_task *task) {
     if (strcmp(waits, "-") == 0) return 1;
     for (;; waits++) {
         uint64_t wait;
@@ -32,9 +31,9 @@ static int read_words(const char *core, const char *waits, struct slotfigures_ta
     }
 }
 
-/* the time of a task: the tight figure of the image in a file; NULL, or what is wrong with it */
-static const char *read_time(const char *file, uint64_t *time) {
-    static uint8_t image[16384 + 1];
+/* reads the core and the time of a task off the image in a file: NULL, or what is wrong with it */
+static const char *read_image(const char *file, struct slotfigures_task *task) {
+    static uint8_t image[16384 + 1], bus[2];
     static uint64_t table[SLOTFIGURES_MOST_PLACES];
     static char refused[64];
     uint64_t answer[3];
@@ -48,26 +47,29 @@ static const char *read_time(const char *file, uint64_t *time) {
         sprintf(refused, "refused %" PRIu64 " %" PRIu64, answer[0], answer[1]);
         return refused;
     }
-    *time = answer[0];
-    /* The tight figure holds only for the starts that the image lists, and a task that waits may start at any offset. An accepted image lists
-     * each start once and below the period, so it lists every offset exactly when field 2's length, bytes 7 and 8 with the high byte first,
-     * is the period. */
+    task->core = image[5];
+    task->time = answer[0];
+    /* The tight figure holds only for the starts that the image lists, and a task may start at any offset. An accepted image lists each start
+     * once and below the period, so it lists every offset if field 2's length, bytes 7 and 8 with the high byte first, is the period. */
     slotfigures_judge(image, n, answer, 3);
-    return image[7] * 256u + image[8] == answer[1] ? NULL : "it does not list every offset as a start: its tight figure is no time";
+    if (image[7] * 256u + image[8] != answer[1]) return "it does not list every offset as a start: its tight figure is no time";
+    /* all tasks run on one bus: its cores and its slot, bytes 3 and 4, are those of the first image */
+    if (bus[0] == 0) memcpy(bus, image + 3, 2);
+    return memcmp(bus, image + 3, 2) == 0 ? NULL : "its bus is not that of the first image";
 }
 
 int main(int argc, char **argv) {
-    size_t n = (size_t)argc / 3, i;
+    size_t n = (size_t)argc / 2, i;
     struct slotfigures_task *tasks = calloc(n + 1, sizeof *tasks);
     uint64_t finishes[SLOTFIGURES_MOST_TASKS], answer[2];
-    int good = tasks && argc > 1 && argc % 3 == 1;
-    for (i = 0; good && i < n; i++) good = read_words(argv[3 * i + 1], argv[3 * i + 3], &tasks[i]);
+    int good = tasks && argc > 1 && argc % 2 == 1;
+    for (i = 0; good && i < n; i++) good = read_waits(argv[2 * i + 2], &tasks[i]);
     if (!good) {
-        fputs("usage: finishes CORE IMAGE WAITS [CORE IMAGE WAITS ..]\n", stderr);
+        fputs("usage: finishes IMAGE WAITS [IMAGE WAITS ..]\n", stderr);
         return 2;
     }
     for (i = 0; i < n; i++) {
-        const char *file = argv[3 * i + 2], *wrong = read_time(file, &tasks[i].time);
+        const char *file = argv[2 * i + 1], *wrong = read_image(file, &tasks[i]);
         if (wrong) {
             fprintf(stderr, "%s: %s\n", file, wrong);
             return 1;

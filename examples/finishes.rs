@@ -1,6 +1,6 @@
-// By when tasks that wait for tasks start and end, the whole way from their images: finishes CORE IMAGE WAITS [CORE IMAGE WAITS ..]
-// Three words to a task: its core, the file of its task image (bytes), and the indices of the earlier tasks that it waits for, with commas, or
-// - for none. Its time is the tight figure of its image.
+// By when tasks that wait for tasks start and end, the whole way from their images: finishes IMAGE WAITS [IMAGE WAITS ..]
+// Two words to a task: the file of its task image (bytes), and the indices of the earlier tasks that it waits for, with commas, or - for none.
+// Its core is that of its image, and its time the image's tight figure.
 // (Rust's library takes a standard output that is closed, or open for reading only, for one that takes everything, and lets no closed pipe end
 // the program by a signal.)
 use slotfigures::{figures, finishes, period, Refusal, Task, MOST_PLACES};
@@ -15,17 +15,23 @@ fn number(word: &str) -> Option<usize> {
     word.parse().ok().filter(|_| !word.starts_with('+'))
 }
 
-// The core and the waits of a task.
-fn read_words(core: &OsStr, waits: &OsStr) -> Option<(usize, Vec<usize>)> {
-    let waits = match waits.to_str()? {
-        "-" => Vec::new(),
-        waits => waits.split(',').map(number).collect::<Option<_>>()?,
-    };
-    Some((number(core.to_str()?)?, waits))
+// The waits of a task.
+fn read_waits(waits: &OsStr) -> Option<Vec<usize>> {
+    match waits.to_str()? {
+        "-" => Some(Vec::new()),
+        waits => waits.split(',').map(number).collect(),
+    }
 }
 
-// The time of a task: the tight figure of the image in a file; or what is wrong with it.
-fn read_time(file: &OsStr) -> Result<u64, String> {
+// What a task's image says: its bus, cores and slot, its core, and its tight figure.
+struct Image {
+    bus: [u8; 2],
+    core: usize,
+    tight: u64,
+}
+
+// The image in a file; or what is wrong with it.
+fn read_image(file: &OsStr) -> Result<Image, String> {
     let refused = |r: Refusal| format!("refused {} {}", r.number, r.place);
     let mut image = Vec::new();
     File::open(file)
@@ -37,14 +43,17 @@ fn read_time(file: &OsStr) -> Result<u64, String> {
     let tight = figures(&image, &mut [0; MOST_PLACES])
         .map_err(refused)?
         .tight;
-    // The tight figure holds only for the starts that the image lists, and a task that waits may start at any offset. An accepted image lists
-    // each start once and below the period, so it lists every offset exactly when field 2's length, bytes 7 and 8 with the high byte first,
-    // is the period.
+    // The tight figure holds only for the starts that the image lists, and a task may start at any offset. An accepted image lists each start
+    // once and below the period, so it lists every offset if field 2's length, bytes 7 and 8 with the high byte first, is the period.
     let starts = u16::from_be_bytes([image[7], image[8]]);
     if usize::from(starts) != period(&image).map_err(refused)? {
         return Err("it does not list every offset as a start: its tight figure is no time".into());
     }
-    Ok(tight)
+    Ok(Image {
+        bus: [image[3], image[4]],
+        core: image[5].into(),
+        tight,
+    })
 }
 
 // A line for each task, or the refusal, on standard output.
@@ -74,30 +83,30 @@ fn told(status: u8, whose: &OsStr, what: &str) -> ExitCode {
 
 fn main() -> ExitCode {
     let words: Vec<OsString> = std::env::args_os().skip(1).collect();
-    let read = words.chunks(3).map(|words| match words {
-        [core, _, waits] => read_words(core, waits),
+    let read = words.chunks(2).map(|words| match words {
+        [_, waits] => read_waits(waits),
         _ => None,
     });
-    let read: Vec<(usize, Vec<usize>)> = match read.collect() {
+    let read: Vec<Vec<usize>> = match read.collect() {
         Some(read) if !words.is_empty() => read,
-        _ => {
-            return told(
-                2,
-                "usage".as_ref(),
-                "finishes CORE IMAGE WAITS [CORE IMAGE WAITS ..]",
-            )
-        }
+        _ => return told(2, "usage".as_ref(), "finishes IMAGE WAITS [IMAGE WAITS ..]"),
     };
     let mut tasks = Vec::new();
-    for (words, (core, waits)) in words.chunks(3).zip(&read) {
-        match read_time(&words[1]) {
-            Ok(time) => tasks.push(Task {
-                core: *core,
-                time,
-                waits,
-            }),
-            Err(what) => return told(1, &words[1], &what),
-        }
+    let mut first_bus = None;
+    for (words, waits) in words.chunks(2).zip(&read) {
+        let image = match read_image(&words[0]) {
+            // all tasks run on one bus
+            Ok(image) if *first_bus.get_or_insert(image.bus) != image.bus => {
+                return told(1, &words[0], "its bus is not that of the first image")
+            }
+            Ok(image) => image,
+            Err(what) => return told(1, &words[0], &what),
+        };
+        tasks.push(Task {
+            core: image.core,
+            time: image.tight,
+            waits,
+        });
     }
     match list(&tasks) {
         Ok(()) => ExitCode::SUCCESS,

@@ -74,16 +74,19 @@ uint64_t slotfigures_figures(const uint8_t *image, size_t image_length, uint64_t
 /* An entry of a table of tasks that wait for tasks: eleven numbers. */
 struct slotfigures_task {
     uint64_t core;                          /* 0 to 15. Tasks on one core run in table order */
-    uint64_t time;                          /* cycles, at most 6,553,500,000. It may be the tight figure of an image only if that lists
-                                               every offset below its period as a start: a task that waits may start at any */
-    uint64_t count;                         /* how many earlier tasks it waits for, 0 to 8 */
+    uint64_t time;                          /* cycles, at most 6,553,500,000. It may be the tight figure of an image (see below) */
+    uint64_t count;                         /* how many earlier tasks it waits for, 0 to 8. The previous task on its core need not be
+                                               among them */
     uint64_t waits[SLOTFIGURES_MOST_WAITS]; /* their indices, counted from 0; places behind the first `count` may hold anything */
 };
 
-/* Works out the finish of each task: its time plus the largest finish among those it waits for and the previous task on its core, or 0.
- * If every task starts as soon as those have ended and takes no longer than its time, none ends after its finish.
- *   table     the numbers of 1 to 64 entries, eleven to each. A length that is no multiple of eleven is that of no table (21, place 0)
- *   finishes  at least 64 places. DONE: place i holds the finish of task i, or 0 past the table. REFUSED: 64 times 0.
+/* Works out the finish of each task: its time plus the largest finish among those it waits for and the previous task on its core (plus 0
+ * where there are none). If every task starts as soon as those have ended and takes no longer than its time, each starts by its finish less
+ * its time, and none ends after its finish. A tight figure may be a time only if its image lists every offset below its period as a start,
+ * since a task may start at any; the image is then one of this core, and all images are of one bus (the same cores and slot).
+ *   table     the numbers of 1 to 64 entries. table_length counts numbers, eleven to an entry: for `struct slotfigures_task t[n]` pass
+ *             (const uint64_t *)t and 11 * n. A length that is no multiple of eleven is that of no table (21, place 0)
+ *   finishes  at least 64 places. DONE: place i holds the finish of task i, which may be 0, or 0 past the table. REFUSED: 64 times 0.
  *             Later places keep their contents.
  *   answer    at least 2 places. DONE: 0 and 0. REFUSED: 21 and the place. Later places keep their contents.
  */

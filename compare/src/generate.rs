@@ -57,21 +57,21 @@ impl Random {
     }
 
     /// a number below `bound`
-    fn below(&mut self, bound: u64) -> u64 {
+    pub fn below(&mut self, bound: u64) -> u64 {
         self.next() % bound
     }
 
     /// a number from `low` to `high`
-    fn from(&mut self, low: u64, high: u64) -> u64 {
+    pub fn from(&mut self, low: u64, high: u64) -> u64 {
         low + self.below(high - low + 1)
     }
 
     /// true once in `times`
-    fn once_in(&mut self, times: u64) -> bool {
+    pub fn once_in(&mut self, times: u64) -> bool {
         self.below(times) == 0
     }
 
-    fn one_of<'a, T>(&mut self, list: &'a [T]) -> &'a T {
+    pub fn one_of<'a, T>(&mut self, list: &'a [T]) -> &'a T {
         &list[self.below(list.len() as u64) as usize]
     }
 }
@@ -127,7 +127,7 @@ pub fn blank_nodes(number: usize) -> Vec<u8> {
 const MOST_WORK: u64 = 3_000_000;
 
 /// The steps that a calculation offset by offset takes for an image, about; 0 for one that is refused.
-fn work(image: &[u8]) -> u64 {
+pub fn work(image: &[u8]) -> u64 {
     let task = match judge(image) {
         Ok(task) => task,
         Err(_) => return 0,
@@ -148,7 +148,7 @@ fn work(image: &[u8]) -> u64 {
 }
 
 /// How large random tasks may become.
-struct Shape {
+pub struct Shape {
     nodes: u64,
     starts: u64,
     children: u64,
@@ -160,11 +160,11 @@ struct Shape {
 }
 
 /// Few enough choices that most such tasks can be enumerated.
-const SMALL: Shape = Shape { nodes: 9, starts: 4, children: 4, arms: 3, count: 3, range_once_in: 3, range: 3 };
+pub const SMALL: Shape = Shape { nodes: 9, starts: 4, children: 4, arms: 3, count: 3, range_once_in: 3, range: 3 };
 const MIDDLE: Shape = Shape { nodes: 16, starts: 12, children: 6, arms: 4, count: 6, range_once_in: 2, range: 12 };
 const LARGE: Shape = Shape { nodes: 40, starts: 256, children: 16, arms: 8, count: 60, range_once_in: 2, range: 63 };
 
-fn random_bus(random: &mut Random) -> (u64, u64, u64) {
+pub fn random_bus(random: &mut Random) -> (u64, u64, u64) {
     let (cores, slot) = match random.below(10) {
         0..=4 => (random.from(2, 4), random.from(1, 6)),
         5..=6 => {
@@ -200,7 +200,13 @@ fn random_task(random: &mut Random, shape: &Shape) -> Vec<u8> {
     }
     let from: Vec<u8> = (0..period).filter(|&offset| from[offset as usize]).map(|offset| offset as u8).collect();
 
-    let mut image = [bus(cores as u8, slot as u8, core as u8), starts(&from)].concat();
+    let nodes = random_nodes(random, shape, slot, period);
+    [bus(cores as u8, slot as u8, core as u8), starts(&from), nodes].concat()
+}
+
+/// The node fields of a task.
+pub fn random_nodes(random: &mut Random, shape: &Shape, slot: u64, period: u64) -> Vec<u8> {
+    let mut fields = Vec::new();
     let nodes = random.from(1, shape.nodes);
     for own in 0..nodes {
         // the entry is seldom a block
@@ -211,9 +217,9 @@ fn random_task(random: &mut Random, shape: &Shape) -> Vec<u8> {
         } else {
             random.from(0, 9)
         };
-        image.extend(random_node(random, shape, own, kind, slot, period));
+        fields.extend(random_node(random, shape, own, kind, slot, period));
     }
-    image
+    fields
 }
 
 fn random_node(random: &mut Random, shape: &Shape, own: u64, kind: u64, slot: u64, period: u64) -> Vec<u8> {

@@ -12,6 +12,8 @@ mod generate;
 mod image;
 mod offsets;
 mod reference;
+// single runs are for the task tables
+#[allow(dead_code)]
 mod runs;
 
 use child::{Feed, Program, Watched};

@@ -2,6 +2,7 @@
 //!
 //! Each run is executed anew from its start. A list of choices says what it takes wherever a choice is open; after the run
 //! the last choice that has another possibility moves on by one, and those behind it are taken from the first again.
+//! `one` executes a single run, its choices taken as the caller says.
 
 use crate::image::{Bus, Node, Task};
 use std::collections::BTreeMap;
@@ -25,6 +26,8 @@ struct Run<'a> {
     count: u64,
     choices: Vec<Choice>,
     next: usize,
+    /// what is taken at first where so many possibilities are open
+    first: &'a mut dyn FnMut(u64) -> u64,
     steps_left: u64,
 }
 
@@ -34,7 +37,8 @@ struct Spent;
 /// All runs of the task, or none if they take more steps than are lent.
 pub fn enumerate(task: &Task, steps: u64) -> Option<Runs> {
     let mut runs = Runs { longest: BTreeMap::new(), number: 0 };
-    let mut run = Run { task, offset: 0, count: 0, choices: Vec::new(), next: 0, steps_left: steps };
+    let mut first = |_| 0;
+    let mut run = Run::new(task, &mut first, steps);
     loop {
         if run.whole().is_err() {
             return None;
@@ -48,12 +52,28 @@ pub fn enumerate(task: &Task, steps: u64) -> Option<Runs> {
     }
 }
 
-impl Run<'_> {
-    /// "Its state is an offset and a count of cycles, at first the start and 0. ... The entry is executed from that state"
+/// The cycles of one run from this offset, whether it is listed as a start or not; `choose` takes one of so many possibilities.
+/// None if it takes more steps than are lent.
+pub fn one(task: &Task, offset: u64, choose: &mut dyn FnMut(u64) -> u64, steps: u64) -> Option<u64> {
+    let mut run = Run::new(task, choose, steps);
+    run.from(offset).ok()?;
+    Some(run.count)
+}
+
+impl<'a> Run<'a> {
+    fn new(task: &'a Task, first: &'a mut dyn FnMut(u64) -> u64, steps: u64) -> Run<'a> {
+        Run { task, offset: 0, count: 0, choices: Vec::new(), next: 0, first, steps_left: steps }
+    }
+
     fn whole(&mut self) -> Result<(), Spent> {
         self.next = 0;
         let start = self.choose(self.task.starts.len() as u64)?;
-        self.offset = self.task.starts[start as usize];
+        self.from(self.task.starts[start as usize])
+    }
+
+    /// "Its state is an offset and a count of cycles, at first the start and 0. ... The entry is executed from that state"
+    fn from(&mut self, start: u64) -> Result<(), Spent> {
+        self.offset = start;
         self.count = 0;
         self.execute(self.task.entry())
     }
@@ -118,7 +138,8 @@ impl Run<'_> {
         }
         self.step(1)?;
         if self.next == self.choices.len() {
-            self.choices.push(Choice { taken: 0, open });
+            let taken = (self.first)(open);
+            self.choices.push(Choice { taken, open });
         }
         self.next += 1;
         Ok(self.choices[self.next - 1].taken)

@@ -1,6 +1,9 @@
-//! Behaves like `figure`; with `--fault NAME` it has that one fault of wrong/faults.txt. It shares no code with the reference.
+//! Behaves like `figure`, or with `--tables` like tests/linked/tables.c; with `--fault NAME` it has that one fault of
+//! wrong/faults.txt. It shares no code with the reference.
 //!
-//! wrong [--fault NAME]
+//! wrong [--tables] [--fault NAME]
+
+mod wrong_tables;
 
 use std::collections::{BTreeMap, BTreeSet};
 use std::io::{Read, Write};
@@ -49,17 +52,26 @@ type Set = BTreeSet<u64>;
 type Refusal = (u64, usize);
 
 fn main() {
-    let words: Vec<String> = std::env::args().skip(1).collect();
+    let mut words: Vec<String> = std::env::args().skip(1).collect();
+    let tables = words.first().is_some_and(|word| word == "--tables");
+    words.drain(..usize::from(tables));
+    // a name that the list has, of the kind that is asked for
+    let known = |name: &str| {
+        let listed = FAULTS.lines().any(|line| line.starts_with(&format!("{name}: ")));
+        listed && name.starts_with("tasks-") == tables
+    };
     let fault = match &words[..] {
         [] => Fault(String::new()),
-        [option, name] if option == "--fault" && FAULTS.lines().any(|line| line.starts_with(&format!("{name}: "))) => {
-            Fault(name.clone())
-        }
+        [option, name] if option == "--fault" && known(name) => Fault(name.clone()),
         _ => {
-            eprintln!("wrong [--fault NAME]");
+            eprintln!("wrong [--tables] [--fault NAME]");
             exit(2)
         }
     };
+    if tables {
+        wrong_tables::run(&fault);
+        return;
+    }
     let input = read_input(&fault);
     let text = match judge(&fault, &input) {
         Ok(image) => figures(&fault, &image),

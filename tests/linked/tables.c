@@ -36,6 +36,7 @@ static const char *try_call(size_t length, size_t ends, size_t answers, uint64_t
     static char what[80];
     uint64_t got = call(length, ends, answers);
     sprintf(what, "finishes of %zu, answer of %zu", ends, answers);
+    if (memcmp(table, before, sizeof table)) return "the table is written to";
     if (ends < 64 || answers < 2) return got == 2 && kept(finishes, 0, PLACES) && kept(answer, 0, ANSWERS) ? NULL : what;
     if (got != status || memcmp(finishes, found, 64 * sizeof *found) || memcmp(answer, said, 2 * sizeof *said)) return what;
     return kept(finishes, 64, PLACES) && kept(answer, 2, ANSWERS) ? NULL : what;
@@ -53,7 +54,6 @@ static void try_table(size_t length) {
     for (i = 0; i < sizeof lengths / sizeof *lengths; i++)
         for (answers = 0; answers <= 4; answers++)
             if (!wrong) wrong = try_call(length, lengths[i], answers, status, found, said);
-    if (!wrong && memcmp(table, before, sizeof table)) wrong = "the table is written to";
     if (wrong) {
         printf("wrong %s\n", wrong);
         return;

@@ -57,7 +57,7 @@ pub struct Figures {
 /// earlier tasks that it waits for (at most [`MOST_WAITS`]). Tasks on one core run in table order.
 ///
 /// A tight figure may be a time only if its image lists every offset below its period as a start: it holds for the listed starts alone, and
-/// a task that waits may start anywhere.
+/// a task may start at any. The image is then one of this core, and all images are of one bus (the same cores and slot).
 #[derive(Clone, Copy, Debug, PartialEq, Eq)]
 pub struct Task<'a> {
     pub core: usize,
@@ -79,8 +79,8 @@ impl Task<'_> {
     }
 }
 
-/// Why nothing is given: the number, its word and its place. The numbers 1 to 10 are told of an image, and the place is a byte position;
-/// 21 is told of a table of tasks, and the place is the index of an entry, or 0 for the table's size.
+/// Why nothing is given: the number, its word and its place. The numbers 1 to 10 are told of an image, and the place is a byte position or,
+/// for 7 to 10, the image's length; 21 is told of a table of tasks, and the place is the index of an entry, or 0 for the table's size.
 #[derive(Clone, Copy, Debug, PartialEq, Eq)]
 pub struct Refusal {
     pub number: u64,
@@ -170,8 +170,8 @@ pub fn figures(image: &[u8], table: &mut [u64]) -> Result<Figures, Refusal> {
 }
 
 /// The finish of each task of a table, in cycles: its time plus the largest finish among those that it waits for and the previous task on its
-/// core, or 0. Places past the table hold 0. If every task starts as soon as those have ended and takes no longer than its time, none ends
-/// after its finish; a tight figure may be a time only as [`Task`] says.
+/// core, or 0. Places past the table hold 0. If every task starts as soon as those have ended and takes no longer than its time, each starts by
+/// its finish less its time, and none ends after its finish; a tight figure may be a time only as [`Task`] says.
 ///
 /// Refused (number 21): a table that has not 1 to [`MOST_TASKS`] tasks, place 0; or else the first entry with a number out of range or a wait
 /// for a task that is not earlier, place its index.

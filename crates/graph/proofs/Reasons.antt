@@ -60,7 +60,7 @@ module _ (s : List ℕ) where
   because i e =
       either (sizeOk s)
       (λ t. let r = first-says (λ i. permitted i (graphOf s i)) (sizeOf s) i (rw t at e) in
-      bad-entry (sizeOf s) (size-says s t) (r .below) (λ j l. permitted-is j (graphOf s j) (r .before j l))
+      bad-entry (sizeOf s) (size-says s t) (r .below) (λ j l. permitted-is j (graphOf s j) (r .before j (omega (arith, l))))
       (λ p. different (is-permitted i (graphOf s i) p) (r .there)))
       (λ t. let q : some 0 ≡ some i = rw t at e in let z : 0 ≡ i = cc in
       subst (Condition s) z (no-table (λ n k. different (size-ok s n k) t)))
@@ -70,7 +70,7 @@ module _ (s : List ℕ) where
   whenever _ (no-table h) = either (sizeOk s) (λ t. absurd (h (sizeOf s) (size-says s t))) (λ t. rw t)
   whenever i (bad-entry n k l before there) =
       rw (size-ok s n k, size-is s n k)
-      (first-some (λ i. permitted i (graphOf s i)) n i l (λ j m. is-permitted j (graphOf s j) (before j m))
+      (first-some (λ i. permitted i (graphOf s i)) n i l (λ j m. is-permitted j (graphOf s j) (before j (omega (arith, m))))
       (either (permitted i (graphOf s i)) (λ t. absurd (there (permitted-is i (graphOf s i) t))) (λ t. t)))
 
   -- at no place

@@ -136,7 +136,7 @@ module _ (table before lent : List ℕ) where
   -- what the caller finds of an accepted table
   pub whole-finishes : (status : ℕ) (after said : List ℕ) → finishesCall table before lent ≡ (status, after, said) → WholeFinishes table before lent status after
   whole-finishes status after said e n ok room long =
-      let q = sym e ∙ finishes-by room long _ (answer-given table n ok) in
+      let q = sym e ∙ finishes-by (omega (arith, room)) (omega (arith, long)) _ (answer-given table n ok) in
       let f : after ≡ finishesOf table ++ drop 64 before = ap (λ (x : ℕ × List ℕ × List ℕ). x .1) q in (
         ap (λ (x : ℕ × List ℕ × List ℕ). x .0) q,
         finishing table n ok after
