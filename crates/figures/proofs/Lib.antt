@@ -1,4 +1,3 @@
-pub mod TakingOver
 pub mod OneMore
 pub mod Whole
 pub mod Entries

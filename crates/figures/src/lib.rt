@@ -108,9 +108,9 @@ fn exit_count(t: [u64; 256], n: usize) -> u64
 }
 
 // The first n places of the table take those of t; later places keep their contents.
-fn fill(table: &mut [u64], t: [u64; 256], n: usize)
-    requires { ⌜ (n ≤ 256) × (n ≤ length (now table)) ⌝ }
-    ensures { λ _. ⌜ now (table .exit) ≡ take n t ++ drop n (now (table .entry)) ⌝ }
+pub fn fill(table: &mut [u64], t: &[u64], n: usize)
+    requires { ⌜ (n ≤ length (now t)) × (n ≤ length (now table)) ⌝ }
+    ensures { λ _. ⌜ now (table .exit) ≡ take n (now (t .entry)) ++ drop n (now (table .entry)) ⌝ }
 {
     let mut o: usize = 0;
     while o < n {
@@ -129,7 +129,7 @@ fn given(image: &[u8], places: &[usize; 256], k: Task, table: &mut [u64]) -> Ans
         return Answer::Refused(Refusal::Table, image.len());
     }
     let times = exit_times(image, places, k);
-    fill(table, times, period);
+    fill(table, &times, period);
     Answer::Given(Totals {
         tight: times::longest(times, period),
         published: published_cost(image, places, k),

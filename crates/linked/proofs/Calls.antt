@@ -3,7 +3,8 @@ use borrow.Author.Tests.{lt-ltb, le-ltb}
 use mathlib.Core.Path.{_≡_, refl, sym, _∙_, ap}
 use mathlib.Core.Bool.{Bool, cond}
 use mathlib.Core.List.{List, [], _∷_, _++_}
-use lib.ListN.{length, drop, set, List·getD-append}
+use lib.ListN.{length, take, drop, set, List·getD-append}
+use lib.Seq.{take-all}
 use native.Mathlib.Omega.{arith}
 use Prim.Native.Nat.{ℕ, _*_, _≤_, _<_}
 use Rattle.runs.specs.Slots.{equal}
@@ -122,16 +123,20 @@ module _ (table before lent : List ℕ) where
     unfolding finishesCall
     finishes-by r e = rw (le-ltb (length lent) 2 long, le-ltb (length before) 64 room) (ap (λ (x : FinishesResult). finishesInto x before lent) e)
 
-    module _ (a : FinishesFound) (e : FinishesEqual table a) (filled : List ℕ) (h : filled ≡ a .finishes ++ drop 64 before) where
+    module _ (a : FinishesFound) (e : FinishesEqual table a) (filled : List ℕ) (h : filled ≡ take 64 (a .finishes) ++ drop 64 before)
+        (all : length (a .finishes) ≡ 64) where
+      filled-is : filled ≡ a .finishes ++ drop 64 before
+      filled-is = h ∙ ap (λ (f : List ℕ). f ++ drop 64 before) (take-all 64 (a .finishes) (omega arith))
+
       finishes-is : (v : TableVerdict) → a .verdict ≡ v → finishesCall table before lent ≡ finishesInto (finishesBy v (a .finishes)) before lent
       finishes-is v q = finishes-by (finishesBy v (a .finishes)) (sym e ∙ ap (λ (x : TableVerdict). finishesBy x (a .finishes)) q)
 
       pub finishes-given : (after : List ℕ) → a .verdict ≡ TableAccepted → after ≡ 0 ∷ 0 ∷ drop 2 lent → finishesCall table before lent ≡ (0, filled, after)
-      finishes-given after v q = rw (h, q) (finishes-is TableAccepted v)
+      finishes-given after v q = rw (filled-is, q) (finishes-is TableAccepted v)
 
       pub finishes-refused : (place : ℕ) (after : List ℕ) → a .verdict ≡ TableRefused place → after ≡ 21 ∷ place ∷ drop 2 lent
           → finishesCall table before lent ≡ (1, filled, after)
-      finishes-refused place after v q = rw (h, q) (finishes-is (TableRefused place) v)
+      finishes-refused place after v q = rw (filled-is, q) (finishes-is (TableRefused place) v)
 
   -- what the caller finds of an accepted table
   pub whole-finishes : (status : ℕ) (after said : List ℕ) → finishesCall table before lent ≡ (status, after, said) → WholeFinishes table before lent status after

@@ -8,7 +8,7 @@
 // The numbers are those of `image::judge`, `figures::figures` and `graph::finishes`, whose promises hold of them; `WholeFigures` repeats
 // demand 3 of the places that the caller reads, `WholeFinishes` what finishes say of all starts, ends and whole runs.
 ghost use mathlib.Core.Path.{_≡_};
-ghost use mathlib.Core.List.{_∷_, _++_};
+ghost use mathlib.Core.List.{_∷_};
 ghost use Prim.Native.Nat.{_≤_};
 ghost use lib.ListN.{length, drop};
 ghost use Rattle.linked.specs.Linked.{judgeCall, figuresCall, WholeFigures, finishesCall, WholeFinishes};
@@ -34,18 +34,6 @@ fn put(answer: &mut [u64], first: u64, second: u64)
 {
     answer[0] = first;
     answer[1] = second;
-}
-
-// The first 64 places take the numbers of `ends`; later ones keep their contents.
-fn put_finishes(finishes: &mut [u64], ends: [u64; 64])
-    requires { ⌜ 64 ≤ length (now finishes) ⌝ }
-    ensures { λ _. ⌜ now (finishes .exit) ≡ ends ++ drop 64 (now (finishes .entry)) ⌝ }
-{
-    let mut i: usize = 0;
-    while i < 64 {
-        finishes[i] = ends[i];
-        i += 1;
-    }
 }
 
 // Judges an image. The answer takes 0 and the period, the number of places that a table for it needs, or a refusal's number and place.
@@ -116,7 +104,7 @@ pub extern "C" fn slotfigures_finishes(
     let found = graph::finishes(table);
     let verdict = found.verdict;
     let ends = found.finishes;
-    put_finishes(finishes, ends);
+    figures::fill(finishes, &ends, 64);
     match verdict {
         graph::Verdict::Accepted => {
             put(answer, 0, 0);

@@ -1,19 +1,27 @@
 -- Before each turn the table has the first o places of t and then its own at entry; a turn takes over place o.
 use borrow.Author.Needs.{needs}
-use mathlib.Core.Path.{_≡_}
-use mathlib.Core.List.{_++_}
-use lib.ListN.{length, take, drop, length-set}
+use mathlib.Core.Path.{_≡_, sym, _∙_}
+use mathlib.Core.List.{List, _++_}
+use lib.ListN.{length, getD, set, take, drop, length-set}
+use lib.Seq.{drop-cons, take-suc, set-at, append-snoc, length-take-le}
+use native.Mathlib.Numerals.{add-one}
 use native.Mathlib.Omega.{arith}
-use Prim.Native.Nat.{_-_, _≤_}
-use Rattle.figures.proofs.TakingOver.{take-over}
+use Prim.Native.Nat.{ℕ, suc, _+_, _-_, _≤_, _<_}
 use Rattle.figures.proofs.fill.Statement.{statement}
 use Rattle.figures.proofs.fill.Tie as tie
 
+-- one more place is taken over
+more : (d s : List ℕ) (o : ℕ) → o < length s → o < length d → set (take o s ++ drop o d) o (getD s o 0) ≡ take (o + 1) s ++ drop (o + 1) d
+more d s o h g =
+    rw (drop-cons d o 0 g)
+    (set-at (take o s) (getD d o 0) (drop (suc o) d) (getD s o 0) o (length-take-le o s (omega arith))
+    ∙ sym (rw (add-one o, take-suc s o 0 h) (append-snoc (take o s) (getD s o 0) (drop (suc o) d))))
+
 abbrev Inv-loop : tie.InvT-loop
-Inv-loop table₀ n t o₀ table o = (o ≤ n) × (length table ≡ length table₀) × (table ≡ take o t ++ drop o table₀)
+Inv-loop table₀ t n o₀ table o = (o ≤ n) × (length table ≡ length table₀) × (table ≡ take o t ++ drop o table₀)
 
 abbrev μ-loop : tie.MeasureT-loop
-μ-loop table₀ n t o₀ table o = n - o
+μ-loop table₀ t n o₀ table o = n - o
 
 loop-holds : tie.Need-loop-holds Inv-loop μ-loop
 loop-holds c = search needs
@@ -21,8 +29,8 @@ loop-holds c = search needs
 mul-table : tie.Need-mul-table Inv-loop μ-loop
 mul-table c = omega arith
 
-array-read-table : tie.Need-array-read-table Inv-loop μ-loop
-array-read-table c = omega arith
+shared-slice-read-table : tie.Need-shared-slice-read-table Inv-loop μ-loop
+shared-slice-read-table c = omega arith
 
 mul-table-2 : tie.Need-mul-table-2 Inv-loop μ-loop
 mul-table-2 c = omega arith
@@ -38,10 +46,9 @@ loop-less c = omega arith
 
 loop-again : tie.Need-loop-again Inv-loop μ-loop
 loop-again c =
-    let l = c .before .loop in
-    let a = c .before .before .args in
-    let long : length (a .t2) ≡ 256 = search needs in
-    (omega arith, simp length-set (l .inv .1), rw (l .inv .2) (take-over (a .table .now) (a .t2) (l .o) (omega arith) (omega arith)))
+    let l = c .before .before .loop in
+    let a = c .before .before .before .args in
+    (omega arith, simp length-set (l .inv .1), rw (l .inv .2) (more (a .table .now) (a .t .now) (l .o) (omega arith) (omega arith)))
 
 same-length : tie.Need-same-length Inv-loop μ-loop
 same-length c = search needs
@@ -59,7 +66,7 @@ fill-spec =
     μ-loop
     loop-holds
     mul-table
-    array-read-table
+    shared-slice-read-table
     mul-table-2
     slice-write-table
     add-o

@@ -18,31 +18,36 @@ returns c =
 exit-times-requires : tie.Need-exit-times-requires
 exit-times-requires c κs = search needs
 
+slice-aggregate-fill : tie.Need-slice-aggregate-fill
+slice-aggregate-fill c = search needs
+
 fill-requires : tie.Need-fill-requires
 fill-requires c κs =
-    let s = c .before .before .before .before .before .before in
-    (omega (arith, c .before .before .before .period .ensures, s .pre .walkable .sound .bus .period-most), search needs)
+    let long : length (c .before .before .exit-times .result) ≡ 256 = search needs in
+    let s = c .before .before .before .before .before .before .before in
+    (omega (arith, c .before .before .before .before .period .ensures, s .pre .walkable .sound .bus .period-most), search needs)
 
 longest-requires : tie.Need-longest-requires
-longest-requires c κs = let s = c .before .before .before .before .before .before .before .before .before in omega (arith, c .before .before .before .before .before .before .period .ensures, s .pre .walkable .sound .bus .period-most)
+longest-requires c κs = let s = c .before .before .before .before .before .before .before .before .before .before in omega (arith, c .before .before .before .before .before .before .before .period .ensures, s .pre .walkable .sound .bus .period-most)
 
 published-cost-requires : tie.Need-published-cost-requires
 published-cost-requires c κs = search needs
 
 exit-count-requires : tie.Need-exit-count-requires
-exit-count-requires c κs = let s = c .before .before .before .before .before .before .before .before .before .before .before in omega (arith, c .before .before .before .before .before .before .before .before .period .ensures, s .pre .walkable .sound .bus .period-most)
+exit-count-requires c κs = let s = c .before .before .before .before .before .before .before .before .before .before .before .before in omega (arith, c .before .before .before .before .before .before .before .before .before .period .ensures, s .pre .walkable .sound .bus .period-most)
 
 same-length : tie.Need-same-length
 same-length c = search needs
 
 returns-2 : tie.Need-returns-2
 returns-2 c =
-    let s = c .before .before .before .before .before .before .before .before .before .before .before .before in
+    let s = c .before .before .before .before .before .before .before .before .before .before .before .before .before in
     let a = s .args in
-    let p = c .before .before .before .before .before .before .before .before .before .period in
-    let long : length (c .before .before .before .before .before .before .before .exit-times .result) ≡ 256 = search needs in
-    answered-given (a .image .now) (a .k) (a .table .now) (c .before .before .before .before .before .before .before .exit-times .result) (c .before .before .before .before .before .fill .last .0) (p .result) _
-    (p .ensures) (omega (arith, c .before .before .before .before .before .before .before .before .if1 .left)) (omega (arith, p .ensures, s .pre .walkable .sound .bus .period-most)) (c .before .before .before .before .before .before .before .exit-times .ensures) (c .before .before .before .before .before .fill .ensures) (c .before .before .longest .ensures)
+    let p = c .before .before .before .before .before .before .before .before .before .before .period in
+    let t = c .before .before .before .before .before .before .before .before .exit-times in
+    let long : length (t .result) ≡ 256 = search needs in
+    answered-given (a .image .now) (a .k) (a .table .now) (t .result) (c .before .before .before .before .before .fill .last .0) (p .result) _
+    (p .ensures) (omega (arith, c .before .before .before .before .before .before .before .before .before .if1 .left)) (omega (arith, p .ensures, s .pre .walkable .sound .bus .period-most)) (t .ensures) (c .before .before .before .before .before .fill .ensures) (c .before .before .longest .ensures)
     (c .before .published-cost .ensures) (c .exit-count .ensures)
 
 pub given-spec : {M : Type 1} → statement M
@@ -52,6 +57,7 @@ given-spec =
     period-requires
     returns
     exit-times-requires
+    slice-aggregate-fill
     fill-requires
     longest-requires
     published-cost-requires
