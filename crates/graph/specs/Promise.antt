@@ -15,7 +15,7 @@ use Rattle.graph.specs.Images.{Imaged, Ran}
 abbrev pub Equal : List ℕ → Answer → Type 0
 Equal s r = resultOf r ≡ answer s
 
--- 2, refused if and only if the condition for it holds, and accepted only if none does
+-- 2, refused if and only if the condition for it holds, and accepted only where the size and every entry are permitted
 pub record Because (s : List ℕ) (r : Answer) : Type 0 where
   pub because : (place : ℕ) → r .verdict ≡ Refused place → Condition s place
   pub whenever : (place : ℕ) → Condition s place → r .verdict ≡ Refused place
