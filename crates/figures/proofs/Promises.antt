@@ -10,6 +10,7 @@ use Prim.Native.Nat.{ℕ, _≤_}
 use Rattle.runs.specs.Slots.{equal, equation7}
 use Rattle.runs.specs.Runs.{Task as RunTask}
 use Rattle.runs.specs.Figures.{entryOf, tight, published, exitCount}
+use Rattle.runs.proofs.Whole.{demand3}
 use Rattle.bus.specs.declared.Bus.{Bus}
 use Rattle.bus.specs.Waits.{slotsOf}
 use Rattle.image.specs.Nodes.{taskOf}
@@ -19,7 +20,6 @@ use Rattle.image.specs.declared.Refusal.{Refusal}
 use Rattle.image.specs.declared.Task.{Task}
 use Rattle.image.specs.declared.Verdict.{Verdict}
 use Rattle.image.specs.declared.Verdict.the-variants.{Accepted, Refused}
-use Rattle.runs.proofs.Whole.{demand3}
 use Rattle.image.proofs.Reasons.{when-accepted}
 use Rattle.image.proofs.Sounds.{accepted}
 use Rattle.figures.specs.declared.Totals.{Totals}

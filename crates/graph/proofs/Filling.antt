@@ -10,8 +10,8 @@ use native.Mathlib.Omega.{arith}
 use Prim.Native.Nat.{ℕ, _+_, _≤_, _<_, max}
 use Rattle.runs.specs.Figures.{largest}
 use Rattle.runs.proofs.Cases.{split, either}
-use Rattle.graph.specs.Graph.{Graph, Permitted, lastOn, orZero, latest, finish}
 use Rattle.runs.proofs.Largest.{largest-same}
+use Rattle.graph.specs.Graph.{Graph, Permitted, lastOn, orZero, latest, finish}
 use Rattle.graph.proofs.Schedules.{finish-is}
 
 -- the first i tasks are done

@@ -2,8 +2,8 @@
 use native.Mathlib.Omega.{arith}
 use mathlib.Core.Path.{_≡_, refl}
 use lib.ListN.{length, length-set}
-use Prim.Native.Nat.{ℕ, _*_, _-_, _≤_, _<_}
-use Rattle.graph.specs.Graph.{Permitted}
+use Prim.Native.Nat.{ℕ, _+_, _*_, _-_, _≤_, _<_}
+use Rattle.graph.specs.Graph.{Permitted, finish}
 use Rattle.graph.specs.Table.{graphOf}
 use Rattle.graph.proofs.Schedules.{finish-most}
 use Rattle.graph.proofs.Tables.{finishes-are}
@@ -68,14 +68,22 @@ latest-requires c κs =
     let p = entry (c .before .before .before .before .before .before .before) (c .before .before .before .before .before .loop .i) (omega arith) in
     (p .few, omega arith, λ k l. omega (arith, p .earlier k l))
 
--- the sum does not wrap, since it is the task's finish
+-- where `latest` has answered: the entry in hand, and that its time and that answer make its finish
+in-hand : (c : tie.After-latest Inv-loop μ-loop) → Permitted (c .before .before .before .before .before .before .loop .i) (graphOf (c .before .before .before .before .before .before .before .before .args .table .now) (c .before .before .before .before .before .before .loop .i))
+in-hand c = entry (c .before .before .before .before .before .before .before .before) (c .before .before .before .before .before .before .loop .i) (omega arith)
+
+sum-is : (c : tie.After-latest Inv-loop μ-loop)
+    → graphOf (c .before .before .before .before .before .before .before .before .args .table .now) (c .before .before .before .before .before .before .loop .i) .time + c .latest .result ≡ finish (graphOf (c .before .before .before .before .before .before .before .before .args .table .now)) (c .before .before .before .before .before .before .loop .i)
+sum-is c =
+    let st : tie.Start Inv-loop μ-loop = c .before .before .before .before .before .before .before .before in
+    let l = c .before .before .before .before .before .before .loop in
+    end-is (graphOf (st .args .table .now)) (l .i) (l .ends) (l .last) (l .inv .5) (st .args .n) (entry st) (omega arith) (c .latest .result) (c .latest .ensures)
+
+-- so the sum does not wrap
 add-end-2 : tie.Need-add-end-2 Inv-loop μ-loop
 add-end-2 c =
     let st : tie.Start Inv-loop μ-loop = c .before .before .before .before .before .before .before .before in
-    let l = c .before .before .before .before .before .before .loop in
-    let g = graphOf (st .args .table .now) in
-    let e = end-is g (l .i) (l .ends) (l .last) (l .inv .5) (st .args .n) (entry st) (omega arith) (c .latest .result) (c .latest .ensures) in
-    omega (arith, e, finish-most g (st .args .n) (entry st) (l .i) (omega arith))
+    omega (arith, sum-is c, finish-most (graphOf (st .args .table .now)) (st .args .n) (entry st) (c .before .before .before .before .before .before .loop .i) (omega arith))
 
 mul-ends : tie.Need-mul-ends Inv-loop μ-loop
 mul-ends c = omega arith
@@ -84,10 +92,10 @@ array-write-ends : tie.Need-array-write-ends Inv-loop μ-loop
 array-write-ends c = omega arith
 
 mul-last : tie.Need-mul-last Inv-loop μ-loop
-mul-last c = omega (arith, entry (c .before .before .before .before .before .before .before .before) (c .before .before .before .before .before .before .loop .i) (omega arith) .core-most)
+mul-last c = omega (arith, in-hand c .core-most)
 
 array-write-last : tie.Need-array-write-last Inv-loop μ-loop
-array-write-last c = omega (arith, entry (c .before .before .before .before .before .before .before .before) (c .before .before .before .before .before .before .loop .i) (omega arith) .core-most)
+array-write-last c = omega (arith, in-hand c .core-most)
 
 add-i : tie.Need-add-i Inv-loop μ-loop
 add-i c = omega arith
@@ -97,17 +105,13 @@ loop-less c = omega arith
 
 loop-again : tie.Need-loop-again Inv-loop μ-loop
 loop-again c =
-    let st : tie.Start Inv-loop μ-loop = c .before .before .before .before .before .before .before .before in
-    let l = c .before .before .before .before .before .before .loop in
-    let g = graphOf (st .args .table .now) in
-    let e = end-is g (l .i) (l .ends) (l .last) (l .inv .5) (st .args .n) (entry st) (omega arith) (c .latest .result) (c .latest .ensures) in
-    let low = entry st (l .i) (omega arith) .core-most in (
+    let l = c .before .before .before .before .before .before .loop in (
       omega arith,
       l .inv .1,
       l .inv .2,
       simp length-set (l .inv .3),
       simp length-set (l .inv .4),
-      one-more g (l .i) (l .ends) (l .last) (l .inv .5) _ (l .inv .3) (l .inv .4) (omega arith) (omega (arith, low)) e,
+      one-more _ (l .i) (l .ends) (l .last) (l .inv .5) _ (l .inv .3) (l .inv .4) (omega arith) (omega (arith, in-hand c .core-most)) (sum-is c),
     )
 
 returns : tie.Need-returns Inv-loop μ-loop
