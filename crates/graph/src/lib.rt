@@ -3,9 +3,9 @@
 // `finishes` asks nothing of its caller and promises, for every slice of numbers (specs/Promise.antt):
 //   equality   its answer is the definition's, `answer` (specs/Table.antt, specs/Graph.antt), for refused tables too
 //   reason     it is a refusal at a place if and only if the condition for it holds (specs/Conditions.antt)
-//   waiting    an accepted table is answered; each task starts by its finish less its time and ends by its finish, which is reached; and so
-//              does every whole run on the bus clock, where the times are tight figures of images that list every offset as a start
-//              (specs/Images.antt)
+//   waiting    an accepted table is answered. No task that takes at most its time ends after its finish, and those that take exactly their
+//              times end at it (specs/Graph.antt); no whole run on the bus clock ends after it, where the times are no less than the tight
+//              figures of images that list every offset as a start (specs/Images.antt)
 // Wrong answers that it rules out: the previous task on the core forgotten, the last finish in place of the largest, a task that waits for
 // itself, a 65th task, numbers past the table.
 ghost use mathlib.Core.Path.{_≡_};
