@@ -18,7 +18,7 @@ use Rattle.bus.specs.declared.Bus.{Bus}
 use Rattle.image.proofs.Numbers.{eq-or-ne, both, is-within}
 use Rattle.image.proofs.Lists.{names-below, start-range, starts-ascend}
 
-by-tag : (P : ℕ → Type 0) (t : ℕ) → 3 ≤ t → t ≤ 7 → P 3 → P 4 → P 5 → P 6 → P 7 → P t
+pub by-tag : (P : ℕ → Type 0) (t : ℕ) → 3 ≤ t → t ≤ 7 → P 3 → P 4 → P 5 → P 6 → P 7 → P t
 by-tag P t lo hi p3 p4 p5 p6 p7 =
     ⊎-elim (λ e. subst P (sym e) p3)
     (λ n3. ⊎-elim (λ e. subst P (sym e) p4)
@@ -67,7 +67,7 @@ module _ (s : List ℕ) (b n own : ℕ) (inside : b + n ≤ length s) where
       let h = ltb-true (wordAt s (b + 4) + 2) (own + 2) (q .0) in
       (leb-true _ _ (p .0), leb-true _ _ (p .1), omega arith)
 
-node-tag : (own t : ℕ) → tagOk (own + 2) t ≡ true → (3 ≤ t) × (t ≤ 7)
+pub node-tag : (own t : ℕ) → tagOk (own + 2) t ≡ true → (3 ≤ t) × (t ≤ 7)
 unfolding tagOk
 node-tag own t e =
     is-within 3 7 t (rw (ne-eqb (own + 2) 0 (λ q. omega arith), ne-eqb (own + 2) 1 (λ q. omega arith)) at e)
@@ -82,7 +82,7 @@ node-fine s own g =
     (loop-fine s b n own (g .body)) (g .len) (g .value) (g .children)
 
 -- row 1
-bus-row : (s : List ℕ) → GoodField s 0 → (busOk (byteAt s 3) (byteAt s 4) (byteAt s 5) ≡ true) × (fieldAt s 1 ≡ 6)
+pub bus-row : (s : List ℕ) → GoodField s 0 → (busOk (byteAt s 3) (byteAt s 4) (byteAt s 5) ≡ true) × (fieldAt s 1 ≡ 6)
 unfolding tagOk lengthOk valueOk fieldAt
 bus-row s g =
     let t : byteAt s 0 ≡ 1 = eqb-true (byteAt s 0) 1 (g .tag) in
@@ -112,7 +112,7 @@ pub bus-fine : (s : List ℕ) → GoodField s 0 → Ranges (busOf s)
 bus-fine s g = ranges (busOf s) (bus-row s g .0)
 
 -- row 2
-starts-row : (s : List ℕ) → fieldAt s 1 ≡ 6 → GoodField s 1
+pub starts-row : (s : List ℕ) → fieldAt s 1 ≡ 6 → GoodField s 1
     → (startsOk s 9 (wordAt s 7) 0 (byteAt s 3 * byteAt s 4) ≡ true) × (within 1 256 (wordAt s 7) ≡ true)
 unfolding tagOk lengthOk valueOk
 starts-row s place g =

@@ -14,7 +14,7 @@ use Rattle.image.specs.Nodes.{fieldAt, treeAt}
 use Rattle.image.specs.Judged.{scan, wholeOf, judged}
 use Rattle.image.specs.Conditions.{lengthAt, bodyAt, Passed, Complete, Condition, head-cut, wrong-tag, one-more, wrong-length, body-cut, wrong-value, not-below, no-node, too-deep, too-long, Accepting}
 use Rattle.image.specs.declared.Refusal.{Refusal}
-use Rattle.image.specs.declared.Refusal.the-variants.{Cut, Tag, Full, Length, Value, Forward, Unfinished, Deep, Long, Table}
+use Rattle.image.specs.declared.Refusal.the-variants.{Cut, Tag, Full, Length, Value, Forward, Unfinished, Deep, Long, Table, Block}
 use Rattle.image.specs.declared.fields.Judgement.the-variants.{Bad}
 use Rattle.image.specs.declared.fields.End.the-variants.{Whole}
 use Rattle.image.specs.declared.Task.{Task}
@@ -85,9 +85,12 @@ module _ (s : List ℕ) where
         sym (a .starts),
       )
 
-  -- judging never answers `table`
+  -- judging never answers `table`, nor `block`
   pub never-table : (place : ℕ) → judged s ≡ Refused Table place → ⊥
   never-table place e = elim (when-refused Table place e) [ ]
+
+  pub never-block : (place : ℕ) → judged s ≡ Refused Block place → ⊥
+  never-block place e = elim (when-refused Block place e) [ ]
 
   -- "The first that holds is returned; an image is accepted when none holds."
   pub accepted-if-none : ((r : Refusal) (place : ℕ) → Condition s r place → ⊥) → (t : Task) × (judged s ≡ Accepted t)

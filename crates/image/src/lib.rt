@@ -23,10 +23,11 @@ use bus::Bus;
 mod fields;
 pub mod nodes;
 pub mod read;
-mod rows;
+pub mod rows;
 mod weigh;
 
-// Why no figure is given: the words of the table. Judging answers the first nine; `Table` is for a caller that lends a table.
+// Why no figure is given: the words of the table. Judging answers the first nine; `Table` is for a caller that lends a table, `Block`
+// for one that edits a block.
 pub enum Refusal {
     Cut,
     Tag,
@@ -38,6 +39,7 @@ pub enum Refusal {
     Deep,
     Long,
     Table,
+    Block,
 }
 
 // An accepted image: the bus of field 1, the number of start offsets in field 2, the number of nodes, and the last of them.
@@ -74,6 +76,7 @@ pub fn number(r: Refusal) -> usize
         Refusal::Deep => 8,
         Refusal::Long => 9,
         Refusal::Table => 10,
+        Refusal::Block => 19,
     }
 }
 

@@ -94,10 +94,13 @@ fn starts_ok(image: &[u8], place: usize, count: usize, period: usize) -> bool
     true
 }
 
-fn plain_ok(lowest: usize, highest: usize) -> bool
-    requires { ⌜ highest < 65536 ⌝ }
+// May a plain block have these durations? Any numbers may be asked about: an edit's are its caller's, and need not fit two bytes.
+pub fn plain_ok(lowest: usize, highest: usize) -> bool
     ensures { λ r. ⌜ r ≡ plainOk lowest highest ⌝ }
 {
+    if 65535 < highest {
+        return false;
+    }
     if highest < lowest {
         return false;
     }

@@ -1,0 +1,129 @@
+-- Which block an edit finds, test by test; and an edit is refused if and only if the condition for it holds.
+use borrow.Author.Tests.{lt-ltb, le-ltb, eq-eqb, ne-eqb}
+use mathlib.Core.Path.{_≡_, refl, sym, _∙_}
+use mathlib.Core.Bool.{Bool, true, false, cond}
+use mathlib.Core.List.{List}
+use lib.ListN.{length}
+use native.Mathlib.Omega.{arith}
+use Prim.Native.Nat.{ℕ, _≤_, _<_}
+use Rattle.runs.proofs.Cases.{either}
+use Rattle.image.specs.Bytes.{byteAt}
+use Rattle.image.specs.Fields.{plainOk}
+use Rattle.image.specs.Judged.{judged}
+use Rattle.image.specs.declared.Refusal.{Refusal}
+use Rattle.image.specs.declared.Refusal.the-variants.{Value, Block}
+use Rattle.image.specs.declared.Task.{Task}
+use Rattle.image.specs.declared.Verdict.{Verdict}
+use Rattle.image.specs.declared.Verdict.the-variants.{Accepted, Refused}
+use Rattle.image.proofs.Longest.{longest}
+use Rattle.image.proofs.Reasons.{refused-when, when-refused, when-accepted, accepted-when}
+use Rattle.edits.specs.declared.Found.the-variants.{At, Refused as NotFound}
+use Rattle.edits.specs.Edits.{placeOf, isPlain, foundFor, found}
+use Rattle.edits.specs.Promise.{EditCondition, unaccepted, no-block, out-of-range, Editable}
+use Rattle.edits.specs.Steps.{Finding}
+use Rattle.edits.proofs.Plain.{in-range, range-in, node-was, is-plain, plain-is}
+use Rattle.edits.proofs.Standing.{inside}
+
+module _ (s : List ℕ) (node lo hi : ℕ) where
+  -- ---- what `find` gives at each of its returns
+
+  not-there : (r : Refusal) (place : ℕ) → found s node lo hi ≡ NotFound r place → Finding s node lo hi (NotFound r place)
+  not-there r place e = record { is = sym e; at = λ p q. absurd (let z : _≡_ {A = ℕ} 0 1 = cc in omega arith) }
+
+  pub refused-found : (r : Refusal) (place : ℕ) → judged s ≡ Refused r place → Finding s node lo hi (NotFound r place)
+  unfolding found
+  refused-found r place e = not-there r place (rw e)
+
+  module _ (k : Task) (e : judged s ≡ Accepted k) where
+    no-node : k .nodes ≤ node → found s node lo hi ≡ NotFound Block (length s)
+    unfolding found
+    no-node l = rw (e, le-ltb node (k .nodes) l)
+
+    pub none-found : k .nodes ≤ node → Finding s node lo hi (NotFound Block (length s))
+    none-found l = not-there Block (length s) (no-node l)
+
+    module _ (exists : node < k .nodes) where
+      not-plain : (byteAt s (placeOf s node) ≡ 3 → ⊥) → found s node lo hi ≡ NotFound Block (length s)
+      unfolding found
+      not-plain n = rw (e, lt-ltb node (k .nodes) exists, ne-eqb (byteAt s (placeOf s node)) 3 n)
+
+      pub other-found : (byteAt s (placeOf s node) ≡ 3 → ⊥) → Finding s node lo hi (NotFound Block (length s))
+      other-found n = not-there Block (length s) (not-plain n)
+
+      module _ (tag : byteAt s (placeOf s node) ≡ 3) where
+        by-range : (t : Bool) → plainOk lo hi ≡ t → found s node lo hi ≡ cond t (At (placeOf s node)) (NotFound Value (placeOf s node))
+        unfolding found
+        by-range t p = rw (e, lt-ltb node (k .nodes) exists, eq-eqb (byteAt s (placeOf s node)) 3 tag, p)
+
+        pub range-found : plainOk lo hi ≡ false → Finding s node lo hi (NotFound Value (placeOf s node))
+        range-found p = not-there Value (placeOf s node) (by-range false p)
+
+        pub at-found : plainOk lo hi ≡ true → Finding s node lo hi (At (placeOf s node))
+        at-found p =
+            let a = when-accepted s k e in
+            let r = in-range lo hi p in
+            let d : Editable s node lo hi = record { task = k; accepting = a; block = record { exists = exists; plain = (_, _, node-was s node tag) }; durations = r } in
+            record {
+              is = sym (by-range true p);
+              at = λ place q.
+                  let here : placeOf s node ≡ place = cc in
+                  (sym here, record { inside = omega (arith, inside s node lo hi d); low = omega (arith, r .order, r .most); high = r .most }, longest s k a);
+            }
+
+  -- ---- the conditions
+
+  because-for : (v : Verdict) → judged s ≡ v → (r : Refusal) (place : ℕ) → foundFor s node lo hi v ≡ NotFound r place → EditCondition s node lo hi r place
+  because-for (Refused x p) e r place q =
+      let a : x ≡ r = cc in
+      let b : p ≡ place = cc in
+      unaccepted r place (when-refused s r place (rw (← a, ← b) e))
+  because-for (Accepted k) e r place q =
+      let a = when-accepted s k e in
+      either (isPlain s k node)
+      (λ t. either (plainOk lo hi)
+      (λ u. absurd (let f = rw (t, u) at q in let z : _≡_ {A = ℕ} 0 1 = cc in omega arith))
+      (λ u.
+      let f : NotFound Value (placeOf s node) ≡ NotFound r place = rw (t, u) at q in
+      let x : Value ≡ r = cc in
+      let p : placeOf s node ≡ place = cc in
+      rw (← x, ← p) (out-of-range k a (plain-is s node k t) (λ d. never (sym (range-in lo hi d) ∙ u)))))
+      (λ t.
+      let f : NotFound Block (length s) ≡ NotFound r place = rw t at q in
+      let x : Block ≡ r = cc in
+      let p : length s ≡ place = cc in
+      rw (← x, ← p) (no-block k a (λ d. never (sym (is-plain s node k d) ∙ t))))
+    where
+      never : true ≡ false → ⊥
+      never q = let z : _≡_ {A = ℕ} 0 1 = cc in omega arith
+
+  pub edit-because : (r : Refusal) (place : ℕ) → found s node lo hi ≡ NotFound r place → EditCondition s node lo hi r place
+  unfolding found
+  edit-because r place q = because-for (judged s) refl r place q
+
+  pub edit-whenever : (r : Refusal) (place : ℕ) → EditCondition s node lo hi r place → found s node lo hi ≡ NotFound r place
+  unfolding found
+  edit-whenever r place (unaccepted _ _ c) = rw (refused-when s r place c)
+  edit-whenever Block _ (no-block k a n) =
+      rw (accepted-when s k a)
+      (either (isPlain s k node) (λ t. absurd (n (plain-is s node k t))) (λ t. rw t))
+  edit-whenever Value _ (out-of-range k a p n) =
+      rw (accepted-when s k a, is-plain s node k p)
+      (either (plainOk lo hi) (λ t. absurd (n (in-range lo hi t))) (λ t. rw t))
+
+  -- the edit is done if and only if it is possible
+  pub found-when : Editable s node lo hi → found s node lo hi ≡ At (placeOf s node)
+  unfolding found
+  found-when d = rw (accepted-when s (d .task) (d .accepting), is-plain s node (d .task) (d .block), range-in lo hi (d .durations))
+
+  pub when-found : (place : ℕ) → found s node lo hi ≡ At place → Editable s node lo hi
+  unfolding found
+  when-found place q = by-verdict (judged s) refl q
+    where
+      by-verdict : (v : Verdict) → judged s ≡ v → foundFor s node lo hi v ≡ At place → Editable s node lo hi
+      by-verdict (Refused x p) e q = absurd (let z : _≡_ {A = ℕ} 0 1 = cc in omega arith)
+      by-verdict (Accepted k) e q =
+          either (isPlain s k node)
+          (λ t. either (plainOk lo hi)
+          (λ u. record { task = k; accepting = when-accepted s k e; block = plain-is s node k t; durations = in-range lo hi u })
+          (λ u. absurd (let f = rw (t, u) at q in let z : _≡_ {A = ℕ} 0 1 = cc in omega arith)))
+          (λ t. absurd (let f = rw t at q in let z : _≡_ {A = ℕ} 0 1 = cc in omega arith))

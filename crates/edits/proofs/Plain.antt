@@ -1,0 +1,68 @@
+-- A plain block, by its field's tag and by what the node says; and the rule of its durations, as the row computes it and in plain terms.
+use borrow.Author.Tests.{lt-ltb, ltb-true, leb-true, eq-eqb, eqb-true, le-leb}
+use mathlib.Core.Path.{_≡_, refl}
+use mathlib.Core.Bool.{Bool, true, false, _&&_}
+use mathlib.Core.List.{List}
+use lib.Dec.{eqb, ltb, leb}
+use native.Mathlib.Omega.{arith}
+use Prim.Native.Nat.{ℕ, _+_, _-_}
+use Rattle.runs.specs.Nodes.{Node as RunNode}
+use Rattle.image.specs.Bytes.{byteAt, wordAt}
+use Rattle.image.specs.Fields.{plainOk}
+use Rattle.image.specs.Nodes.{pickNode, nodeFrom, meant, nodeAt}
+use Rattle.image.specs.declared.nodes.Node.the-variants.{Plain, Bus, Sequence, Branch, Loop}
+use Rattle.image.specs.declared.nodes.Plain.{Plain as PlainNumbers}
+use Rattle.image.specs.declared.nodes.BusBlock.{BusBlock}
+use Rattle.image.specs.declared.nodes.Children.{Children}
+use Rattle.image.specs.declared.nodes.Loop.{Loop as LoopNumbers}
+use Rattle.image.specs.declared.Task.{Task}
+use Rattle.image.proofs.Numbers.{both}
+use Rattle.edits.specs.Edits.{placeOf, isPlain}
+use Rattle.edits.specs.Promise.{PlainBlock, Durations}
+
+-- the row of tag 3
+pub in-range : (lo hi : ℕ) → plainOk lo hi ≡ true → Durations lo hi
+unfolding plainOk
+in-range lo hi e =
+    let p = both (leb hi 65535) (leb lo hi && leb (hi - lo) 63) e in
+    let q = both (leb lo hi) (leb (hi - lo) 63) (p .1) in
+    record { most = leb-true hi 65535 (p .0); order = leb-true lo hi (q .0); near = leb-true (hi - lo) 63 (q .1) }
+
+pub range-in : (lo hi : ℕ) → Durations lo hi → plainOk lo hi ≡ true
+unfolding plainOk
+range-in lo hi d = simp (le-leb hi 65535 (d .most), le-leb lo hi (d .order), le-leb (hi - lo) 63 (d .near))
+
+-- a node that is plain has tag 3
+plain-tag : (s : List ℕ) (t3 t4 t5 t6 : Bool) (p : PlainNumbers) (b : BusBlock) (c d : Children) (l : LoopNumbers) (lo hi : ℕ)
+    → meant s (pickNode t3 (Plain p) (pickNode t4 (Bus b) (pickNode t5 (Sequence c) (pickNode t6 (Branch d) (Loop l))))) ≡ RunNode.plain lo hi
+    → t3 ≡ true
+unfolding meant
+plain-tag s true t4 t5 t6 p b c d l lo hi e = refl
+plain-tag s false true t5 t6 p b c d l lo hi e = absurd (let z : _≡_ {A = ℕ} 0 1 = cc in omega arith)
+plain-tag s false false true t6 p b c d l lo hi e = absurd (let z : _≡_ {A = ℕ} 0 1 = cc in omega arith)
+plain-tag s false false false true p b c d l lo hi e = absurd (let z : _≡_ {A = ℕ} 0 1 = cc in omega arith)
+plain-tag s false false false false p b c d l lo hi e = absurd (let z : _≡_ {A = ℕ} 0 1 = cc in omega arith)
+
+module _ (s : List ℕ) (node : ℕ) where
+  tag-plain : (lo hi : ℕ) → nodeAt s node ≡ RunNode.plain lo hi → byteAt s (placeOf s node) ≡ 3
+  unfolding nodeAt nodeFrom
+  tag-plain lo hi e =
+      let t = byteAt s (placeOf s node) in
+      eqb-true t 3 (plain-tag s (eqb t 3) (eqb t 4) (eqb t 5) (eqb t 6) _ _ _ _ _ lo hi e)
+
+  -- what it says
+  pub node-was : byteAt s (placeOf s node) ≡ 3 → nodeAt s node ≡ RunNode.plain (wordAt s (placeOf s node + 3)) (wordAt s (placeOf s node + 3 + 2))
+  unfolding nodeAt nodeFrom meant
+  node-was tag = rw tag
+
+  module _ (k : Task) where
+    pub tag-of : PlainBlock s k node → byteAt s (placeOf s node) ≡ 3
+    tag-of p = tag-plain (p .plain .0) (p .plain .1) (p .plain .2)
+
+    pub is-plain : PlainBlock s k node → isPlain s k node ≡ true
+    is-plain p = simp (lt-ltb node (k .nodes) (p .exists), eq-eqb (byteAt s (placeOf s node)) 3 (tag-of p))
+
+    pub plain-is : isPlain s k node ≡ true → PlainBlock s k node
+    plain-is e =
+        let p = both (ltb node (k .nodes)) (eqb (byteAt s (placeOf s node)) 3) e in
+        record { exists = ltb-true node (k .nodes) (p .0); plain = (_, _, node-was (eqb-true _ 3 (p .1))) }

@@ -1,0 +1,164 @@
+-- What `edit` and `preview` promise, from what `find` found and from the figures of the copy.
+use mathlib.Core.Path.{_≡_, refl, sym, _∙_, ap, subst}
+use mathlib.Core.Bool.{Bool, true, false, cond}
+use mathlib.Core.List.{List}
+use lib.ListN.{length}
+use lib.Dec.{ltb}
+use borrow.Author.Tests.{lt-ltb, le-ltb, ltb-true}
+use native.Mathlib.Omega.{arith}
+use Prim.Native.Nat.{ℕ, _+_}
+use Rattle.image.specs.Judged.{numberOf, judged}
+use Rattle.image.specs.Nodes.{taskOf}
+use Rattle.image.specs.declared.Refusal.{Refusal}
+use Rattle.image.specs.declared.Refusal.the-variants.{Cut, Tag, Full, Length, Value, Forward, Unfinished, Deep, Long, Table, Block}
+use Rattle.image.specs.declared.Task.{Task}
+use Rattle.image.specs.declared.Verdict.the-variants.{Accepted}
+use Rattle.image.proofs.Reasons.{accepted-when}
+use Rattle.figures.specs.declared.Answer.{Answer}
+use Rattle.figures.specs.declared.Answer.the-variants.{Given, Refused as NotGiven}
+use Rattle.figures.specs.Answers.{refused, resultOf, periodOf, figuresOf}
+use Rattle.figures.specs.Promise.{Equal, Demand3, Demand2}
+use Rattle.edits.specs.declared.Found.{Found}
+use Rattle.edits.specs.declared.Found.the-variants.{At, Refused as NotFound}
+use Rattle.edits.specs.declared.Edited.the-variants.{Done, Refused as NotDone}
+use Rattle.edits.specs.Edits.{placeOf, withDurations, imageWith, found}
+use Rattle.edits.specs.Promise.{Editable, PreviewCondition, no-edit, short-table, Editing, Leaves, EditDone, Previewing, Quoted, Foreseen}
+use Rattle.edits.specs.Steps.{Finding}
+use Rattle.edits.proofs.Standing.{leaves}
+use Rattle.edits.proofs.Finds.{edit-because, edit-whenever, found-when, when-found}
+
+-- 10 is the number of `Table` alone
+is-table : (x : Refusal) → numberOf x ≡ 10 → x ≡ Table
+is-table Cut e = absurd (omega arith)
+is-table Tag e = absurd (omega arith)
+is-table Full e = absurd (omega arith)
+is-table Length e = absurd (omega arith)
+is-table Value e = absurd (omega arith)
+is-table Forward e = absurd (omega arith)
+is-table Unfinished e = absurd (omega arith)
+is-table Deep e = absurd (omega arith)
+is-table Long e = absurd (omega arith)
+is-table Table e = refl
+is-table Block e = absurd (omega arith)
+
+module _ (s : List ℕ) (node lo hi : ℕ) (f : Found) (h : Finding s node lo hi f) where
+  -- ---- the edit is refused, and with it the preview
+
+  module _ (r : Refusal) (place : ℕ) (e : f ≡ NotFound r place) where
+    not-found : found s node lo hi ≡ NotFound r place
+    not-found = sym (h .is) ∙ e
+
+    impossible : Editable s node lo hi → ⊥
+    impossible d = let w = found-when s node lo hi d in let q = not-found in let z : _≡_ {A = ℕ} 0 1 = cc in omega arith
+
+    same-refusal : (x : Refusal) (p : ℕ) → found s node lo hi ≡ NotFound x p → (r ≡ x) × (place ≡ p)
+    same-refusal x p w = let g : NotFound r place ≡ NotFound x p = sym not-found ∙ w in (cc, cc)
+
+    pub edit-refused : Editing s node lo hi (NotDone r place) s
+    edit-refused = record {
+      result = rw not-found;
+      image = rw not-found;
+      because = λ x p c.
+          let a : r ≡ x = cc in
+          let b : place ≡ p = cc in
+          rw (← a, ← b) (edit-because s node lo hi r place not-found);
+      whenever = λ x p c. let w = same-refusal x p (edit-whenever s node lo hi x p c) in rw (w .0, w .1);
+    }
+
+    pub refused-done : EditDone s node lo hi (NotDone r place) s
+    refused-done d = absurd (impossible d)
+
+    module _ (before : List ℕ) where
+      when-not : (x : Refusal) (p : ℕ) → PreviewCondition s node lo hi before x p → NotGiven r place ≡ NotGiven x p
+      when-not x p (no-edit _ _ c) = let w = same-refusal x p (edit-whenever s node lo hi x p c) in rw (w .0, w .1)
+      when-not Table _ (short-table d l) = absurd (impossible d)
+
+      pub preview-refused : Previewing s node lo hi before (NotGiven r place) before
+      preview-refused = record {
+        result = rw not-found;
+        table = rw not-found;
+        because = λ x p c.
+            let a : r ≡ x = cc in
+            let b : place ≡ p = cc in
+            rw (← a, ← b) (no-edit r place (edit-because s node lo hi r place not-found));
+        whenever = when-not;
+      }
+
+      pub refused-foreseen : Foreseen s node lo hi before (NotGiven r place) before
+      refused-foreseen d = absurd (impossible d)
+
+  -- ---- the edit is possible
+
+  module _ (place : ℕ) (e : f ≡ At place) where
+    at-place : found s node lo hi ≡ At place
+    at-place = sym (h .is) ∙ e
+
+    there : withDurations s (place + 3) lo hi ≡ imageWith s node lo hi
+    there = ap (λ (n : ℕ). withDurations s (n + 3) lo hi) (h .at place e .0)
+
+    not-refused : (x : Refusal) (p : ℕ) → found s node lo hi ≡ NotFound x p → ⊥
+    not-refused x p w = let q = at-place in let z : _≡_ {A = ℕ} 0 1 = cc in omega arith
+
+    module _ (after : List ℕ) (w : after ≡ withDurations s (place + 3) lo hi) where
+      pub edit-done : Editing s node lo hi Done after
+      edit-done = record {
+        result = rw at-place;
+        image = rw at-place (w ∙ there);
+        because = λ x p c. absurd (let z : _≡_ {A = ℕ} 0 1 = cc in omega arith);
+        whenever = λ x p c. absurd (not-refused x p (edit-whenever s node lo hi x p c));
+      }
+
+      pub done-done : EditDone s node lo hi Done after
+      done-done d = (refl, subst (Leaves s (d .task) node lo hi) (sym (w ∙ there)) (leaves s node lo hi d))
+
+    -- the figures of the copy
+    module _ (before : List ℕ) (r : Answer) (after : List ℕ) (g : Equal (withDurations s (place + 3) lo hi) before r after) where
+      -- of the edited image and the same task, with 10 last
+      answered : (d : Editable s node lo hi) → resultOf r
+          ≡ cond (ltb (length before) (periodOf (d .task))) (refused 10 (length s)) (figuresOf (taskOf (imageWith s node lo hi) (d .task)))
+      answered d = let l = leaves s node lo hi d in rw (l .accepted, l .long) at (rw there at (g .result))
+
+      only-table : (x : Refusal) (p : ℕ) → r ≡ NotGiven x p → PreviewCondition s node lo hi before x p
+      only-table x p q =
+          let d = when-found s node lo hi place at-place in
+          by-length d (ltb (length before) (periodOf (d .task))) refl (sym (ap resultOf q) ∙ answered d)
+        where
+          by-length : (d : Editable s node lo hi) (t : Bool) → ltb (length before) (periodOf (d .task)) ≡ t
+              → refused (numberOf x) p ≡ cond t (refused 10 (length s)) (figuresOf (taskOf (imageWith s node lo hi) (d .task)))
+              → PreviewCondition s node lo hi before x p
+          by-length d true l w =
+              let a : Table ≡ x = sym (is-table x (let n : numberOf x ≡ 10 = cc in n)) in
+              let b : length s ≡ p = cc in
+              rw (← a, ← b) (short-table d (ltb-true _ _ l))
+          by-length d false l w = absurd (let z : _≡_ {A = ℕ} 0 1 = cc in omega arith)
+
+      when-table : (x : Refusal) (p : ℕ) → PreviewCondition s node lo hi before x p → r ≡ NotGiven x p
+      when-table x p (no-edit _ _ c) = absurd (not-refused x p (edit-whenever s node lo hi x p c))
+      when-table Table _ (short-table d l) = by-answer r (rw (lt-ltb (length before) (periodOf (d .task)) l) at (answered d))
+        where
+          by-answer : (x : Answer) → resultOf x ≡ refused 10 (length s) → x ≡ NotGiven Table (length s)
+          by-answer (Given t) w = absurd (let z : _≡_ {A = ℕ} 0 1 = cc in omega arith)
+          by-answer (NotGiven y p) w =
+              let n : numberOf y ≡ 10 = cc in
+              let b : p ≡ length s = cc in
+              rw (is-table y n, b)
+
+      pub preview-given : Previewing s node lo hi before r after
+      preview-given = record {
+        result = rw at-place (rw there at (g .result));
+        table = rw at-place (rw there at (g .table));
+        because = only-table;
+        whenever = when-table;
+      }
+
+      -- demands 3 and 2 of the copy are those of the edited image
+      module _ (d3 : Demand3 (withDurations s (place + 3) lo hi) r after) (d2 : Demand2 (withDurations s (place + 3) lo hi) r) where
+        pub given-foreseen : Foreseen s node lo hi before r after
+        given-foreseen d l =
+            by-answer r refl (rw (le-ltb (length before) (periodOf (d .task)) l) at (answered d))
+          where
+            by-answer : (x : Answer) → r ≡ x → resultOf x ≡ figuresOf (taskOf (imageWith s node lo hi) (d .task)) → Quoted (imageWith s node lo hi) (d .task) r after
+            by-answer (Given t) q w =
+                let a = leaves s node lo hi d .accepted in
+                record { totals = t; given = q; demand3 = (rw there at d3) (d .task) t a q; demand2 = (rw there at d2) (d .task) t a q }
+            by-answer (NotGiven x p) q w = absurd (let z : _≡_ {A = ℕ} 0 1 = cc in omega arith)

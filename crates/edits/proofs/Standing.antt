@@ -1,0 +1,220 @@
+-- A possible edit leaves every field where it stands, and every other node as it was; the image stays accepted, with the same task.
+use mathlib.Core.Path.{_≡_, sym, _∙_, subst}
+use mathlib.Core.Bool.{true}
+use mathlib.Core.Logic.{_⊎_, inl, inr}
+use mathlib.Core.List.{List}
+use lib.ListN.{length}
+use borrow.Author.Tests.{eqb-true}
+use native.Mathlib.Nat.{not-suc-le-zero}
+use native.Mathlib.Omega.{arith}
+use Prim.Native.Nat.{ℕ, zero, suc, _+_, _≤_, _<_}
+use Rattle.runs.specs.Nodes.{Node}
+use Rattle.runs.proofs.Cases.{split}
+use Rattle.image.specs.Bytes.{byteAt, wordAt}
+use Rattle.image.specs.Fields.{lengthOk, valueOk, childrenOk, busOf}
+use Rattle.image.specs.Nodes.{fieldAt, nodeFrom, meant, nodeAt, treeAt, startsOf}
+use Rattle.image.specs.Conditions.{tagAt, lengthAt, bodyAt, GoodField, Accepting}
+use Rattle.image.proofs.Passing.{next-at, first-at, fewer}
+use Rattle.image.proofs.Kept.{bus-row, node-tag}
+use Rattle.image.proofs.Levels.{falls}
+use Rattle.image.proofs.Reasons.{accepted-when}
+use Rattle.edits.specs.Edits.{placeOf, imageWith}
+use Rattle.edits.specs.Promise.{Editable, Leaves}
+use Rattle.edits.proofs.Plain.{range-in, node-was, tag-of}
+use Rattle.edits.proofs.Written.{written-length, written-before, written-behind, written-lowest, written-highest}
+use Rattle.edits.proofs.Reading.{Agree, agree-part, agree-word, agree-bytes, agree-value, agree-children, agree-node}
+use Rattle.edits.proofs.Alike.{Alike, same, plains, Equally, equally}
+
+-- fields stand one behind the other
+order : (s : List ℕ) (i j : ℕ) → i < j → fieldAt s i + 3 + lengthAt s i ≤ fieldAt s j
+order s i zero l = absurd (not-suc-le-zero l)
+order s i (suc j) l =
+    rw (next-at s j)
+    (split j i
+    (λ g. let e : i ≡ j = omega arith in rw e (omega arith))
+    (λ g. omega (arith, order s i j g)))
+
+module _ (s : List ℕ) (node lo hi : ℕ) (d : Editable s node lo hi) where
+  abbrev after : List ℕ
+  after = imageWith s node lo hi
+
+  good : (j : ℕ) → j < d .task .nodes + 2 → GoodField s j
+  good j l = d .accepting .complete .passed j l
+
+  here : GoodField s (node + 2)
+  here = good (node + 2) (omega (arith, d .block .exists))
+
+  tag : byteAt s (placeOf s node) ≡ 3
+  tag = tag-of s node (d .task) (d .block)
+
+  four : lengthAt s (node + 2) ≡ 4
+  unfolding lengthOk
+  four = eqb-true (lengthAt s (node + 2)) 4 (rw tag at (here .len))
+
+  pub inside : placeOf s node + 3 + 4 ≤ length s
+  inside = omega (arith, here .body, four)
+
+  long : length after ≡ length s
+  long = written-length s (placeOf s node + 3) lo hi
+
+  -- bytes of other fields, and of every head
+  before : (j : ℕ) → j < node + 2 → Agree s after (fieldAt s j) (3 + lengthAt s j)
+  before j l i p q = written-before s (placeOf s node + 3) lo hi i (omega (arith, order s j (node + 2) l))
+
+  behind : (j n : ℕ) → node + 2 < j → Agree s after (fieldAt s j) n
+  behind j n l i p q = written-behind s (placeOf s node + 3) lo hi i (omega (arith, order s (node + 2) j l, four))
+
+  head : (j : ℕ) → Agree s after (fieldAt s j) 3
+  head j =
+      split (node + 2) j
+      (λ l. split j (node + 2)
+      (λ m. let e : j ≡ node + 2 = omega arith in
+      λ i p q. written-before s (placeOf s node + 3) lo hi i (rw e at q))
+      (λ m. behind j 3 m))
+      (λ l. agree-part s after (fieldAt s j) (3 + lengthAt s j) (fieldAt s j) 3 (before j l) (omega arith) (omega arith))
+
+  -- so every field stands where it stood
+  length-same : (j : ℕ) → wordAt after (fieldAt s j + 1) ≡ lengthAt s j
+  length-same j = agree-word s after (fieldAt s j) 3 (fieldAt s j + 1) (head j) (omega arith) (omega arith)
+
+  tag-same : (j : ℕ) → byteAt after (fieldAt s j) ≡ tagAt s j
+  tag-same j = head j (fieldAt s j) (omega arith) (omega arith)
+
+  pub place-same : (j : ℕ) → fieldAt after j ≡ fieldAt s j
+  place-same zero = first-at after ∙ sym (first-at s)
+  place-same (suc j) = rw (next-at after j, place-same j, length-same j, next-at s j)
+
+  -- field 1, and the head and the body of field 2
+  front : 9 + wordAt s 7 ≤ placeOf s node
+  front = let f = bus-row s (good 0 (omega arith)) .1 in rw f at (order s 1 (node + 2) (omega arith))
+
+  early : (i : ℕ) → i < 9 + wordAt s 7 → byteAt after i ≡ byteAt s i
+  early i l = written-before s (placeOf s node + 3) lo hi i (omega (arith, front))
+
+  starts-word : wordAt after 7 ≡ wordAt s 7
+  starts-word = agree-word s after 0 9 7 (λ i p q. early i (omega arith)) (omega arith) (omega arith)
+
+  bus-same : busOf after ≡ busOf s
+  bus-same = rw (early 3 (omega arith), early 4 (omega arith), early 5 (omega arith))
+
+  starts-same : startsOf after ≡ startsOf s
+  starts-same = rw starts-word (agree-bytes s after 9 (wordAt s 7) (λ i p q. early i (omega arith)))
+
+  -- a field whose numbers keep their row's rules is good
+  still-good : (j : ℕ) → j < d .task .nodes + 2 → valueOk after (tagAt s j) (bodyAt s j) (lengthAt s j) ≡ true
+      → childrenOk after (tagAt s j) (bodyAt s j) (lengthAt s j) j ≡ true → GoodField after j
+  still-good j l v c =
+      let g = good j l in
+      record {
+        head = rw (place-same j, long) (g .head);
+        tag = rw (place-same j, tag-same j) (g .tag);
+        room = g .room;
+        len = rw (place-same j, tag-same j, length-same j) (g .len);
+        body = rw (place-same j, length-same j, long) (g .body);
+        value = rw (place-same j, tag-same j, length-same j) v;
+        children = rw (place-same j, tag-same j, length-same j) c;
+      }
+
+  -- such as one with the same body
+  body-before : (j : ℕ) → j < node + 2 → Agree s after (bodyAt s j) (lengthAt s j)
+  body-before j l =
+      agree-part s after (fieldAt s j) (3 + lengthAt s j) (bodyAt s j) (lengthAt s j) (before j l) (omega arith) (omega arith)
+
+  body-behind : (j : ℕ) → node + 2 < j → Agree s after (bodyAt s j) (lengthAt s j)
+  body-behind j l =
+      agree-part s after (fieldAt s j) (3 + lengthAt s j) (bodyAt s j) (lengthAt s j) (behind j (3 + lengthAt s j) l) (omega arith) (omega arith)
+
+  body-good : (j : ℕ) → j < d .task .nodes + 2 → Agree s after (bodyAt s j) (lengthAt s j) → GoodField after j
+  body-good j l h =
+      let g = good j l in
+      still-good j l
+      (agree-value s after (tagAt s j) (bodyAt s j) (lengthAt s j) (g .len) h (early 3 (omega arith)) (early 4 (omega arith)) ∙ g .value)
+      (agree-children s after (tagAt s j) (bodyAt s j) (lengthAt s j) (g .len) h j ∙ g .children)
+
+  -- and the block's own
+  lowest : wordAt after (placeOf s node + 3) ≡ lo
+  lowest = written-lowest s (placeOf s node + 3) lo hi inside
+
+  highest : wordAt after (placeOf s node + 3 + 2) ≡ hi
+  highest = written-highest s (placeOf s node + 3) lo hi inside
+
+  own-good : GoodField after (node + 2)
+  unfolding valueOk childrenOk
+  own-good =
+      still-good (node + 2) (omega (arith, d .block .exists)) (rw (tag, lowest, highest) (range-in lo hi (d .durations))) (rw tag)
+
+  all-good : (j : ℕ) → j < d .task .nodes + 2 → GoodField after j
+  all-good j l =
+      split (node + 2) j
+      (λ p. split j (node + 2)
+      (λ m. let e : node + 2 ≡ j = omega arith in subst (GoodField after) e own-good)
+      (λ m. body-good j l (body-behind j m)))
+      (λ p. body-good j l (body-before j p))
+
+  -- every other node says what it said
+  node-other : (n : ℕ) → n < d .task .nodes → (n ≡ node → ⊥) → nodeAt after n ≡ nodeAt s n
+  unfolding nodeAt
+  node-other n l ne =
+      let g = good (n + 2) (omega arith) in
+      let r = node-tag n (tagAt s (n + 2)) (g .tag) in
+      rw (place-same (n + 2), tag-same (n + 2), length-same (n + 2))
+      (agree-node s after (tagAt s (n + 2)) (bodyAt s (n + 2)) (lengthAt s (n + 2)) (g .len)
+      (split node n
+      (λ m. body-behind (n + 2) (let z : node < n = omega (arith, distinct m) in omega arith))
+      (λ m. body-before (n + 2) (omega arith)))
+      (r .0) (r .1))
+    where
+      distinct : node ≤ n → node < n
+      distinct m = split n node (λ q. absurd (ne (omega arith))) (λ q. q)
+
+  node-same : nodeAt after node ≡ Node.plain lo hi
+  unfolding nodeAt nodeFrom meant
+  node-same = rw (place-same (node + 2), tag-same (node + 2), tag) (rw (lowest, highest))
+
+  -- so depth and visits stay
+  alike : (n : ℕ) → n < suc (d .task .entry) → Alike (nodeAt s n) (nodeAt after n)
+  alike n l =
+      split node n
+      (λ p. split n node
+      (λ m. let e : node ≡ n = omega arith in subst (λ (i : ℕ). Alike (nodeAt s i) (nodeAt after i)) e (rw (node-was s node tag, node-same) (plains _ _ lo hi)))
+      (λ m. other n l (λ q. omega arith)))
+      (λ p. other n l (λ q. omega arith))
+    where
+      other : (n : ℕ) → n < suc (d .task .entry) → (n ≡ node → ⊥) → Alike (nodeAt s n) (nodeAt after n)
+      other n l ne = rw (node-other n (omega (arith, d .accepting .last)) ne) (same (nodeAt s n))
+
+  weight-same : (n : ℕ) → n < suc (d .task .entry) → Equally (treeAt s n) (treeAt after n)
+  weight-same n l =
+      equally (nodeAt s) (nodeAt after) (suc (d .task .entry))
+      (falls s (d .task .entry) (fewer s (d .task .entry + 3) (d .task .nodes + 2) (omega (arith, d .accepting .last)) (d .accepting .complete .passed)))
+      alike n l
+
+  -- and the image stays accepted
+  pub still-accepting : Accepting after (d .task)
+  still-accepting =
+      let a = d .accepting in
+      let w = weight-same (d .task .entry) (omega arith) in
+      record {
+        complete = record { passed = all-good; ends = place-same (d .task .nodes + 2) ∙ a .complete .ends ∙ sym long };
+        last = a .last;
+        shallow = rw (← (w .deep)) (a .shallow);
+        short = rw (← (w .long)) (a .short);
+        bus = a .bus ∙ sym bus-same;
+        starts = a .starts ∙ sym starts-word;
+      }
+
+  pub leaves : Leaves s (d .task) node lo hi after
+  leaves = record {
+    accepted = accepted-when after (d .task) still-accepting;
+    long = long;
+    outside = spared;
+    says = node-same;
+    others = node-other;
+    starts = starts-same;
+    deep = λ n l. sym (weight-same n (omega (arith, d .accepting .last)) .deep);
+    visited = λ n l. sym (weight-same n (omega (arith, d .accepting .last)) .long);
+  }
+    where
+      spared : (i : ℕ) → (i < placeOf s node + 3) ⊎ (placeOf s node + 7 ≤ i) → byteAt after i ≡ byteAt s i
+      spared i (inl l) = written-before s (placeOf s node + 3) lo hi i l
+      spared i (inr l) = written-behind s (placeOf s node + 3) lo hi i (omega arith)

@@ -1,0 +1,69 @@
+-- Four stores from the body on; each byte is below 256.
+use borrow.Author.Needs.{needs}
+use lib.ListN.{length-set}
+use native.Mathlib.Omega.{arith}
+use Rattle.edits.specs.Edits.{withDurations}
+use Rattle.edits.proofs.set_durations.Statement.{statement}
+use Rattle.edits.proofs.set_durations.Tie as tie
+
+add-body : tie.Need-add-body
+add-body c = search needs
+
+cast-image : tie.Need-cast-image
+cast-image c = search needs
+
+slice-write-image : tie.Need-slice-write-image
+slice-write-image c = search needs
+
+cast-image-2 : tie.Need-cast-image-2
+cast-image-2 c = search needs
+
+add-image : tie.Need-add-image
+add-image c = search needs
+
+slice-write-image-2 : tie.Need-slice-write-image-2
+slice-write-image-2 c = simp length-set (omega arith)
+
+cast-image-3 : tie.Need-cast-image-3
+cast-image-3 c = search needs
+
+add-image-2 : tie.Need-add-image-2
+add-image-2 c = search needs
+
+slice-write-image-3 : tie.Need-slice-write-image-3
+slice-write-image-3 c = simp length-set (omega arith)
+
+cast-image-4 : tie.Need-cast-image-4
+cast-image-4 c = search needs
+
+add-image-3 : tie.Need-add-image-3
+add-image-3 c = search needs
+
+slice-write-image-4 : tie.Need-slice-write-image-4
+slice-write-image-4 c = simp length-set (omega arith)
+
+same-length : tie.Need-same-length
+same-length c = search needs
+
+returns : tie.Need-returns
+unfolding withDurations
+returns c = search needs
+
+pub set-durations-spec : {M : Type 1} → statement M
+set-durations-spec =
+    tie.close
+    (tie.spec
+    add-body
+    cast-image
+    slice-write-image
+    cast-image-2
+    add-image
+    slice-write-image-2
+    cast-image-3
+    add-image-2
+    slice-write-image-3
+    cast-image-4
+    add-image-3
+    slice-write-image-4
+    same-length
+    returns)

@@ -1,0 +1,106 @@
+-- What `edit` and `preview` promise, over the image s, the numbers, the answer and what is lent at entry and at exit. Definitions only.
+use mathlib.Core.Path.{_≡_}
+use mathlib.Core.Logic.{_⊎_}
+use mathlib.Core.List.{List}
+use lib.ListN.{length}
+use Prim.Native.Nat.{ℕ, _+_, _-_, _≤_, _<_}
+use Rattle.runs.specs.Nodes.{Node, depth, visits}
+use Rattle.image.specs.Bytes.{byteAt}
+use Rattle.image.specs.Nodes.{nodeAt, treeAt, startsOf, taskOf}
+use Rattle.image.specs.Conditions.{Condition, Accepting}
+use Rattle.image.specs.Judged.{judged}
+use Rattle.image.specs.declared.Refusal.{Refusal}
+use Rattle.image.specs.declared.Refusal.the-variants.{Value, Table, Block}
+use Rattle.image.specs.declared.Task.{Task}
+use Rattle.image.specs.declared.Verdict.the-variants.{Accepted}
+use Rattle.figures.specs.declared.Totals.{Totals}
+use Rattle.figures.specs.declared.Answer.{Answer}
+use Rattle.figures.specs.declared.Answer.the-variants.{Given, Refused as NotGiven}
+use Rattle.figures.specs.Answers.{resultOf, periodOf}
+use Rattle.figures.specs.WholeRuns.{WholeRuns}
+use Rattle.figures.specs.Promise.{ByAlgorithms}
+use Rattle.edits.specs.Edits.{placeOf, imageWith, changeOf, change, imageAfter, previewOf, previewTable}
+use Rattle.edits.specs.declared.Edited.{Edited}
+use Rattle.edits.specs.declared.Edited.the-variants.{Done, Refused as NotDone}
+
+-- ---- when an edit is possible, and when it is refused
+
+-- the node exists, and is plain
+pub record PlainBlock (s : List ℕ) (k : Task) (node : ℕ) : Type 0 where
+  pub exists : node < k .nodes
+  pub plain : (lowest highest : ℕ) × (nodeAt s node ≡ Node.plain lowest highest)
+
+-- the row of tag 3: "0 to 65,535, lowest ≤ highest, difference at most 63"
+pub record Durations (lowest highest : ℕ) : Type 0 where
+  pub most : highest ≤ 65535
+  pub order : lowest ≤ highest
+  pub near : highest - lowest ≤ 63
+
+pub record Editable (s : List ℕ) (node lowest highest : ℕ) : Type 0 where
+  pub task : Task
+  pub accepting : Accepting s task
+  pub block : PlainBlock s task node
+  pub durations : Durations lowest highest
+
+-- for what an edit is refused, and at which place
+pub data EditCondition (s : List ℕ) (node lowest highest : ℕ) : Refusal → ℕ → Type 0 where
+  -- "Unaccepted images are refused first, by their own numbers"
+  unaccepted : (r : Refusal) (place : ℕ) → Condition s r place → EditCondition s node lowest highest r place
+  -- 19: "the node does not exist or is not plain"
+  no-block : (k : Task) → Accepting s k → (PlainBlock s k node → ⊥) → EditCondition s node lowest highest Block (length s)
+  -- 5: "durations out of range get 5 at that block's field"
+  out-of-range : (k : Task) → Accepting s k → PlainBlock s k node → (Durations lowest highest → ⊥)
+      → EditCondition s node lowest highest Value (placeOf s node)
+
+-- and a preview: "10 is judged last"
+pub data PreviewCondition (s : List ℕ) (node lowest highest : ℕ) (table : List ℕ) : Refusal → ℕ → Type 0 where
+  no-edit : (r : Refusal) (place : ℕ) → EditCondition s node lowest highest r place → PreviewCondition s node lowest highest table r place
+  short-table : (e : Editable s node lowest highest) → length table < periodOf (e .task)
+      → PreviewCondition s node lowest highest table Table (length s)
+
+-- ---- `edit`, over the image at entry and at exit
+
+-- equality, for refused edits too; and refused if and only if the condition for it holds
+pub record Editing (s : List ℕ) (node lowest highest : ℕ) (r : Edited) (after : List ℕ) : Type 0 where
+  pub result : changeOf r ≡ change s node lowest highest
+  pub image : after ≡ imageAfter s node lowest highest
+  pub because : (x : Refusal) (place : ℕ) → r ≡ NotDone x place → EditCondition s node lowest highest x place
+  pub whenever : (x : Refusal) (place : ℕ) → EditCondition s node lowest highest x place → r ≡ NotDone x place
+
+-- what an edit that is done leaves of the image s and its task k
+pub record Leaves (s : List ℕ) (k : Task) (node lowest highest : ℕ) (after : List ℕ) : Type 0 where
+  -- an accepted image: the same bus, number of starts, nodes and entry
+  pub accepted : judged after ≡ Accepted k
+  -- "alters no others"
+  pub long : length after ≡ length s
+  pub outside : (i : ℕ) → (i < placeOf s node + 3) ⊎ (placeOf s node + 7 ≤ i) → byteAt after i ≡ byteAt s i
+  -- that node has the durations; every other one, the starts, and each node's depth and visits are as they were
+  pub says : nodeAt after node ≡ Node.plain lowest highest
+  pub others : (n : ℕ) → n < k .nodes → (n ≡ node → ⊥) → nodeAt after n ≡ nodeAt s n
+  pub starts : startsOf after ≡ startsOf s
+  pub deep : (n : ℕ) → n < k .nodes → depth (treeAt after n) ≡ depth (treeAt s n)
+  pub visited : (n : ℕ) → n < k .nodes → visits (treeAt after n) ≡ visits (treeAt s n)
+
+-- an edit that is possible is done
+abbrev pub EditDone : List ℕ → ℕ → ℕ → ℕ → Edited → List ℕ → Type 0
+EditDone s node lowest highest r after = (e : Editable s node lowest highest) → (r ≡ Done) × Leaves s (e .task) node lowest highest after
+
+-- ---- `preview`, over the table at entry and at exit; the image is lent as `&` and stays
+
+pub record Previewing (s : List ℕ) (node lowest highest : ℕ) (before : List ℕ) (r : Answer) (after : List ℕ) : Type 0 where
+  pub result : resultOf r ≡ previewOf s node lowest highest before
+  pub table : after ≡ previewTable s node lowest highest before
+  pub because : (x : Refusal) (place : ℕ) → r ≡ NotGiven x place → PreviewCondition s node lowest highest before x place
+  pub whenever : (x : Refusal) (place : ℕ) → PreviewCondition s node lowest highest before x place → r ≡ NotGiven x place
+
+-- figures are given, and demands 3 and 2 hold of them and of the task k that the image s says
+pub record Quoted (s : List ℕ) (k : Task) (r : Answer) (after : List ℕ) : Type 0 where
+  pub totals : Totals
+  pub given : r ≡ Given totals
+  pub demand3 : WholeRuns (taskOf s k) (totals .tight) (totals .published) (totals .exits) after
+  pub demand2 : ByAlgorithms s k totals
+
+-- of an edit that is possible, with a place for each offset: figures of the edited image
+abbrev pub Foreseen : List ℕ → ℕ → ℕ → ℕ → List ℕ → Answer → List ℕ → Type 0
+Foreseen s node lowest highest before r after = (e : Editable s node lowest highest) → periodOf (e .task) ≤ length before
+    → Quoted (imageWith s node lowest highest) (e .task) r after
