@@ -23,6 +23,9 @@ use Rattle.edits.proofs.Finds.{found-when}
 
 module _ (s : List ℕ) (node lo hi : ℕ) (d : Editable s node lo hi) where
   -- an edit that is possible is done
+  pub change-is : change s node lo hi ≡ done
+  change-is = rw (found-when s node lo hi d)
+
   pub edit-is : imageAfter s node lo hi ≡ imageWith s node lo hi
   edit-is = rw (found-when s node lo hi d)
 

@@ -1,6 +1,6 @@
 -- What each return of the calls leaves is what the definitions say.
 use borrow.Author.Tests.{lt-ltb, le-ltb}
-use mathlib.Core.Path.{_≡_, refl, sym, _∙_, ap}
+use mathlib.Core.Path.{_≡_, refl, sym, _∙_, ap, subst}
 use mathlib.Core.Bool.{Bool, cond}
 use mathlib.Core.List.{List, [], _∷_, _++_}
 use lib.ListN.{length, take, drop, set, List·getD-append}
@@ -19,6 +19,12 @@ use Rattle.figures.specs.declared.Answer.{Answer}
 use Rattle.figures.specs.declared.Answer.the-variants.{Given, Refused as NotGiven}
 use Rattle.figures.specs.Answers.{Result, resultOf, answer, tableAfter}
 use Rattle.figures.specs.Promise.{Equal, Demand3}
+use Rattle.edits.specs.declared.Edited.{Edited}
+use Rattle.edits.specs.declared.Edited.the-variants.{Done, Refused as NotDone}
+use Rattle.edits.specs.Edits.{Change, done, changeOf, change, imageWith, imageAfter, previewOf, previewTable}
+use Rattle.edits.specs.Promise.{Editable, Editing, Leaves, Previewing, Quoted, Foreseen}
+use Rattle.edits.proofs.Standing.{leaves}
+use Rattle.edits.proofs.Laws.{edit-is, change-is}
 use Rattle.graph.specs.declared.Verdict.{Verdict as TableVerdict}
 use Rattle.graph.specs.declared.Verdict.the-variants.{Accepted as TableAccepted, Refused as TableRefused}
 use Rattle.graph.specs.declared.Answer.{Answer as FinishesFound}
@@ -26,7 +32,7 @@ use Rattle.graph.specs.Table.{Result as FinishesResult, resultBy as finishesBy,
 use Rattle.graph.specs.Promise.{Equal as FinishesEqual}
 use Rattle.graph.proofs.Tables.{answer-given, finishes-length}
 use Rattle.graph.proofs.Promises.{finishing}
-use Rattle.linked.specs.Linked.{judgedInto, judgeCall, figuresInto, figuresCall, WholeFigures, finishesInto, finishesCall, WholeFinishes}
+use Rattle.linked.specs.Linked.{doneInto, refusedInto, judgedInto, judgeCall, told, beside, toldCall, figuresCall, WholeFigures, changedInto, editCall, WholeEdit, previewCall, WholePreview, finishesInto, finishesCall, WholeFinishes}
 
 -- ---- the first places of a slice
 
@@ -40,6 +46,15 @@ put-third [] a b c h = absurd (omega arith)
 put-third (x ∷ []) a b c h = absurd (omega arith)
 put-third (x ∷ y ∷ []) a b c h = absurd (omega arith)
 put-third (x ∷ y ∷ z ∷ s) a b c h = refl
+
+-- ---- nothing to tell, and a refusal
+
+pub done-leaves : (lent after : List ℕ) → after ≡ 0 ∷ 0 ∷ drop 2 lent → doneInto lent ≡ (0, after)
+done-leaves lent after h = ap (λ (l : List ℕ). (0, l)) (sym h)
+
+pub refusal-leaves : (lent : List ℕ) (r : Refusal) (n place : ℕ) (after : List ℕ) → n ≡ numberOf r → after ≡ n ∷ place ∷ drop 2 lent
+    → refusedInto (numberOf r) place lent ≡ (1, after)
+refusal-leaves lent r n place after p h = ap (λ (m : ℕ). (1, m ∷ place ∷ drop 2 lent)) (sym p) ∙ ap (λ (l : List ℕ). (1, l)) (sym h)
 
 -- ---- judging
 
@@ -62,49 +77,84 @@ module _ (s lent : List ℕ) where
         judge-is ∙ ap (λ (x : Verdict). judgedInto (outcomeOf s x) lent) e
         ∙ ap (λ (n : ℕ). (0, 0 ∷ n ∷ drop 2 lent)) (sym p) ∙ ap (λ (l : List ℕ). (0, l)) (sym h)
 
-    pub judge-refused : (r : Refusal) (n place : ℕ) (after : List ℕ) → v ≡ Refused r place → n ≡ numberOf r
-        → after ≡ n ∷ place ∷ drop 2 lent → judgeCall s lent ≡ (1, after)
-    judge-refused r n place after e p h =
-        judge-is ∙ ap (λ (x : Verdict). judgedInto (outcomeOf s x) lent) e
-        ∙ ap (λ (m : ℕ). (1, m ∷ place ∷ drop 2 lent)) (sym p) ∙ ap (λ (l : List ℕ). (1, l)) (sym h)
+    pub judge-refused : (r : Refusal) (place : ℕ) (call : ℕ × List ℕ) → v ≡ Refused r place → refusedInto (numberOf r) place lent ≡ call
+        → judgeCall s lent ≡ call
+    judge-refused r place call e h = judge-is ∙ ap (λ (x : Verdict). judgedInto (outcomeOf s x) lent) e ∙ h
 
--- ---- the figures
+-- ---- an answer with figures
 
-module _ (s table lent : List ℕ) where
-  pub figures-short : length lent < 3 → figuresCall s table lent ≡ (2, table, lent)
-  unfolding figuresCall
-  figures-short h =
-      ap (λ (t : Bool). cond t (2, table, lent) (figuresInto (answer s table) (tableAfter s table) lent)) (lt-ltb (length lent) 3 h)
+module _ (lent : List ℕ) (a : Answer) where
+  pub told-given : 3 ≤ length lent → (f : Totals) (after : List ℕ) → a ≡ Given f → after ≡ f .tight ∷ f .published ∷ drop 2 lent
+      → told (resultOf a) lent ≡ (0, set after 2 (f .exits))
+  told-given long f after g h =
+      ap (λ (x : Answer). told (resultOf x) lent) g
+      ∙ ap (λ (l : List ℕ). (0, l)) (sym (put-third lent (f .tight) (f .published) (f .exits) long))
+      ∙ ap (λ (l : List ℕ). (0, set l 2 (f .exits))) (sym h)
 
-  module _ (long : 3 ≤ length lent) (a : Answer) (filled : List ℕ) (e : Equal s table a filled) where
-    figures-is : figuresCall s table lent ≡ figuresInto (resultOf a) filled lent
-    unfolding figuresCall
-    figures-is =
-        ap (λ (t : Bool). cond t (2, table, lent) (figuresInto (answer s table) (tableAfter s table) lent)) (le-ltb (length lent) 3 long)
-        ∙ ap (λ (r : Result). figuresInto r (tableAfter s table) lent) (sym (e .result))
-        ∙ ap (λ (l : List ℕ). figuresInto (resultOf a) l lent) (sym (e .table))
+  pub told-refused : (r : Refusal) (place : ℕ) (call : ℕ × List ℕ) → a ≡ NotGiven r place → refusedInto (numberOf r) place lent ≡ call
+      → told (resultOf a) lent ≡ call
+  told-refused r place call g h = ap (λ (x : Answer). told (resultOf x) lent) g ∙ h
 
-    pub figures-given : (f : Totals) (after : List ℕ) → a ≡ Given f → after ≡ f .tight ∷ f .published ∷ drop 2 lent
-        → figuresCall s table lent ≡ (0, filled, set after 2 (f .exits))
-    figures-given f after g h =
-        figures-is ∙ ap (λ (x : Answer). figuresInto (resultOf x) filled lent) g
-        ∙ ap (λ (l : List ℕ). (0, filled, l)) (sym (put-third lent (f .tight) (f .published) (f .exits) long))
-        ∙ ap (λ (l : List ℕ). (0, filled, set l 2 (f .exits))) (sym h)
+module _ (result : Result) (filled table lent : List ℕ) where
+  pub told-short : length lent < 3 → toldCall result filled table lent ≡ (2, table, lent)
+  unfolding toldCall
+  told-short h = rw (lt-ltb (length lent) 3 h)
 
-    pub figures-refused : (r : Refusal) (n place : ℕ) (after : List ℕ) → a ≡ NotGiven r place → n ≡ numberOf r
-        → after ≡ n ∷ place ∷ drop 2 lent → figuresCall s table lent ≡ (1, filled, after)
-    figures-refused r n place after g p h =
-        figures-is ∙ ap (λ (x : Answer). figuresInto (resultOf x) filled lent) g
-        ∙ ap (λ (m : ℕ). (1, filled, m ∷ place ∷ drop 2 lent)) (sym p) ∙ ap (λ (l : List ℕ). (1, filled, l)) (sym h)
+  pub told-call : 3 ≤ length lent → (a : Answer) (after : List ℕ) → resultOf a ≡ result → after ≡ filled → (status : ℕ) (found : List ℕ)
+      → told (resultOf a) lent ≡ (status, found) → toldCall result filled table lent ≡ (status, after, found)
+  unfolding toldCall
+  told-call long a after e h status found t =
+      rw (le-ltb (length lent) 3 long, h, ← e) (ap (beside filled) t)
 
--- ---- demand 3
+-- ---- the figures: demand 3
 
 pub no-figures : (s table found : List ℕ) (status : ℕ) → 1 ≤ status → WholeFigures s status table found
 no-figures s table found status h k e z = absurd (omega arith)
 
-pub given-runs : (s table lent : List ℕ) (a : Answer) (f : Totals) (after : List ℕ) → Demand3 s a table → a ≡ Given f
-    → 3 ≤ length lent → after ≡ f .tight ∷ f .published ∷ drop 2 lent → WholeFigures s 0 table (set after 2 (f .exits))
-given-runs s table lent a f after d g long h k e z = rw (h, put-third lent (f .tight) (f .published) (f .exits) long) (d k f e g)
+pub told-runs : (s table lent : List ℕ) (a : Answer) (status : ℕ) (found : List ℕ) → Demand3 s a table
+    → told (resultOf a) lent ≡ (status, found) → WholeFigures s status table found
+told-runs s table lent (Given f) status found d e k j z =
+    let q : f .tight ∷ f .published ∷ f .exits ∷ drop 3 lent ≡ found = ap (λ (x : ℕ × List ℕ). x .1) e in
+    rw (← q) (d k f j refl)
+told-runs s table lent (NotGiven r place) status found d e k j z =
+    let q : 1 ≡ status = ap (λ (x : ℕ × List ℕ). x .0) e in
+    absurd (omega arith)
+
+-- ---- an edit
+
+module _ (s : List ℕ) (node lo hi : ℕ) (lent : List ℕ) where
+  pub edit-short : length lent < 2 → editCall s node lo hi lent ≡ (2, s, lent)
+  unfolding editCall
+  edit-short h = rw (lt-ltb (length lent) 2 h)
+
+  pub edit-call : 2 ≤ length lent → (r : Edited) (image : List ℕ) → Editing s node lo hi r image → (x : Edited) → r ≡ x
+      → (status : ℕ) (found : List ℕ) → changedInto (changeOf x) lent ≡ (status, found) → editCall s node lo hi lent ≡ (status, image, found)
+  unfolding editCall
+  edit-call long r image e x q status found h =
+      rw (le-ltb (length lent) 2 long, ← (e .image), ← (e .result), q) (ap (beside image) h)
+
+  -- what the caller finds of a possible edit
+  pub whole-edit : (status : ℕ) (image found : List ℕ) → editCall s node lo hi lent ≡ (status, image, found) → WholeEdit s node lo hi lent status image
+  unfolding editCall
+  whole-edit status image found e d long =
+      let q = rw (le-ltb (length lent) 2 long, edit-is s node lo hi d, change-is s node lo hi d) at e in (
+        sym (ap (λ (x : ℕ × List ℕ × List ℕ). x .0) q),
+        subst (Leaves s (d .task) node lo hi) (ap (λ (x : ℕ × List ℕ × List ℕ). x .1) q) (leaves s node lo hi d),
+      )
+
+-- ---- a preview: demand 3
+
+pub no-preview : (s : List ℕ) (node lo hi : ℕ) (before lent : List ℕ) (status : ℕ) (table found : List ℕ) → length lent < 3
+    → WholePreview s node lo hi before lent status table found
+no-preview s node lo hi before lent status table found short d room long = absurd (omega arith)
+
+pub told-preview : (s : List ℕ) (node lo hi : ℕ) (before lent : List ℕ) (a : Answer) (status : ℕ) (table found : List ℕ)
+    → Foreseen s node lo hi before a table → told (resultOf a) lent ≡ (status, found) → WholePreview s node lo hi before lent status table found
+told-preview s node lo hi before lent a status table found f e d room long =
+    let q = f d room in
+    let t : told (resultOf (Given (q .totals))) lent ≡ (status, found) = rw (q .given) at e in
+    let p : q .totals .tight ∷ q .totals .published ∷ q .totals .exits ∷ drop 3 lent ≡ found = ap (λ (x : ℕ × List ℕ). x .1) t in
+    (sym (ap (λ (x : ℕ × List ℕ). x .0) t), rw (← p) (q .demand3))
 
 -- ---- the finishes
 
@@ -131,8 +181,9 @@ module _ (table before lent : List ℕ) where
       finishes-is : (v : TableVerdict) → a .verdict ≡ v → finishesCall table before lent ≡ finishesInto (finishesBy v (a .finishes)) before lent
       finishes-is v q = finishes-by (finishesBy v (a .finishes)) (sym e ∙ ap (λ (x : TableVerdict). finishesBy x (a .finishes)) q)
 
-      pub finishes-given : (after : List ℕ) → a .verdict ≡ TableAccepted → after ≡ 0 ∷ 0 ∷ drop 2 lent → finishesCall table before lent ≡ (0, filled, after)
-      finishes-given after v q = rw (filled-is, q) (finishes-is TableAccepted v)
+      pub finishes-given : (status : ℕ) (after : List ℕ) → a .verdict ≡ TableAccepted → doneInto lent ≡ (status, after)
+          → finishesCall table before lent ≡ (status, filled, after)
+      finishes-given status after v q = rw filled-is (finishes-is TableAccepted v ∙ ap (beside (a .finishes ++ drop 64 before)) q)
 
       pub finishes-refused : (place : ℕ) (after : List ℕ) → a .verdict ≡ TableRefused place → after ≡ 21 ∷ place ∷ drop 2 lent
           → finishesCall table before lent ≡ (1, filled, after)

@@ -1,8 +1,8 @@
 -- What a caller from C or Rust finds after a call: the status and each lent slice at exit, over the image's bytes, or the task table's numbers,
 -- and the slices at entry. Definitions only; the verdict is `outcome` of crate `image`, the figures and the table `answer` and `tableAfter` of
--- `figures`, the finishes `answer` of `graph`.
+-- `figures`, the edit `change` and `imageAfter` and the preview `previewOf` and `previewTable` of `edits`, the finishes `answer` of `graph`.
 --
--- Statuses: 0 accepted or given, 1 refused, 2 the answer or the finishes have too few places. With 2 every slice keeps its contents.
+-- Statuses: 0 accepted, done or given, 1 refused, 2 the answer or the finishes have too few places. With 2 every slice keeps its contents.
 use mathlib.Core.Path.{_≡_}
 use mathlib.Core.Bool.{cond}
 use mathlib.Core.List.{List, _∷_, _++_}
@@ -13,40 +13,82 @@ use Rattle.image.specs.Nodes.{taskOf}
 use Rattle.image.specs.Judged.{Outcome, accepted, refused as rejected, judged, outcome}
 use Rattle.image.specs.declared.Task.{Task}
 use Rattle.image.specs.declared.Verdict.the-variants.{Accepted}
-use Rattle.figures.specs.Answers.{Result, given, refused, answer, tableAfter}
+use Rattle.figures.specs.Answers.{Result, given, refused, periodOf, answer, tableAfter}
 use Rattle.figures.specs.WholeRuns.{WholeRuns}
+use Rattle.edits.specs.Edits.{Change, done, refused as notDone, imageWith, change, imageAfter, previewOf, previewTable}
+use Rattle.edits.specs.Promise.{Editable, Leaves}
 use Rattle.graph.specs.Table.{Result as FinishesResult, finished, refused as refusedTable, answer as finishesAnswer}
 use Rattle.graph.specs.Conditions.{AcceptedTable}
 use Rattle.graph.specs.Promise.{Finishing}
 
--- judging: 0 and the period, or the number and the place of a refusal; later places keep their contents
+-- the status and the answer at exit, where there is nothing to tell and where a call is refused; later places keep their contents
+abbrev pub doneInto : List ℕ → ℕ × List ℕ
+doneInto lent = (0, 0 ∷ 0 ∷ drop 2 lent)
+
+abbrev pub refusedInto : ℕ → ℕ → List ℕ → ℕ × List ℕ
+refusedInto number place lent = (1, number ∷ place ∷ drop 2 lent)
+
+-- judging: 0 and the period, or the number and the place of a refusal
 abbrev pub judgedInto : Outcome → List ℕ → ℕ × List ℕ
 judgedInto (accepted task) lent = (0, 0 ∷ task .bus .period ∷ drop 2 lent)
-judgedInto (rejected number word place) lent = (1, number ∷ place ∷ drop 2 lent)
+judgedInto (rejected number word place) lent = refusedInto number place lent
 
 -- the status and the answer at exit
 unfoldable pub judgeCall : List ℕ → List ℕ → ℕ × List ℕ
 judgeCall image lent = cond (ltb (length lent) 2) (2, lent) (judgedInto (outcome image) lent)
 
 -- figures: the tight figure, the published one and the exit count, or the number and the place; later places keep their contents
-abbrev pub figuresInto : Result → List ℕ → List ℕ → ℕ × List ℕ × List ℕ
-figuresInto (given tight published exits) table lent = (0, table, tight ∷ published ∷ exits ∷ drop 3 lent)
-figuresInto (refused number place) table lent = (1, table, number ∷ place ∷ drop 2 lent)
+abbrev pub told : Result → List ℕ → ℕ × List ℕ
+told (given tight published exits) lent = (0, tight ∷ published ∷ exits ∷ drop 3 lent)
+told (refused number place) lent = refusedInto number place lent
+
+-- the status, another slice and the answer at exit
+abbrev pub beside : List ℕ → ℕ × List ℕ → ℕ × List ℕ × List ℕ
+beside after call = (call .0, after, call .1)
+
+-- a call for figures, whose table at exit is `filled`
+unfoldable pub toldCall : Result → List ℕ → List ℕ → List ℕ → ℕ × List ℕ × List ℕ
+toldCall result filled table lent = cond (ltb (length lent) 3) (2, table, lent) (beside filled (told result lent))
 
 -- the status, the table and the answer at exit
-unfoldable pub figuresCall : List ℕ → List ℕ → List ℕ → ℕ × List ℕ × List ℕ
-figuresCall image table lent =
-    cond (ltb (length lent) 3) (2, table, lent) (figuresInto (answer image table) (tableAfter image table) lent)
+abbrev pub figuresCall : List ℕ → List ℕ → List ℕ → ℕ × List ℕ × List ℕ
+figuresCall image table lent = toldCall (answer image table) (tableAfter image table) table lent
 
 -- demand 3 of the numbers that the caller finds
 abbrev pub WholeFigures : List ℕ → ℕ → List ℕ → List ℕ → Type 0
 WholeFigures image status table found = (k : Task) → judged image ≡ Accepted k → status ≡ 0
     → WholeRuns (taskOf image k) (getD found 0 0) (getD found 1 0) (getD found 2 0) table
 
+-- an edit: 0 and 0, or the number and the place
+abbrev pub changedInto : Change → List ℕ → ℕ × List ℕ
+changedInto done lent = doneInto lent
+changedInto (notDone number place) lent = refusedInto number place lent
+
+-- the status, the image and the answer at exit
+unfoldable pub editCall : List ℕ → ℕ → ℕ → ℕ → List ℕ → ℕ × List ℕ × List ℕ
+editCall image node lowest highest lent =
+    cond (ltb (length lent) 2) (2, image, lent) (beside (imageAfter image node lowest highest) (changedInto (change image node lowest highest) lent))
+
+-- a possible edit with places enough is done, and the image that the caller finds is such as `Leaves` says
+abbrev pub WholeEdit : List ℕ → ℕ → ℕ → ℕ → List ℕ → ℕ → List ℕ → Type 0
+WholeEdit image node lowest highest lent status after = (e : Editable image node lowest highest) → 2 ≤ length lent
+    → (status ≡ 0) × Leaves image (e .task) node lowest highest after
+
+-- a preview: the status, the table and the answer at exit, as of figures
+abbrev pub previewCall : List ℕ → ℕ → ℕ → ℕ → List ℕ → List ℕ → ℕ × List ℕ × List ℕ
+previewCall image node lowest highest table lent =
+    toldCall (previewOf image node lowest highest table) (previewTable image node lowest highest table) table lent
+
+-- with places enough the preview of a possible edit is given, and demand 3 holds of the edited image and the numbers that the caller finds
+abbrev pub WholePreview : List ℕ → ℕ → ℕ → ℕ → List ℕ → List ℕ → ℕ → List ℕ → List ℕ → Type 0
+WholePreview image node lowest highest before lent status table found = (e : Editable image node lowest highest)
+    → periodOf (e .task) ≤ length before → 3 ≤ length lent
+    → (status ≡ 0) × WholeRuns (taskOf (imageWith image node lowest highest) (e .task)) (getD found 0 0) (getD found 1 0) (getD found 2 0) table
+
 -- finishes: 64 numbers, and 0 and 0, or the number and the place of a refusal; later places keep their contents
 abbrev pub finishesInto : FinishesResult → List ℕ → List ℕ → ℕ × List ℕ × List ℕ
-finishesInto (finished f) before lent = (0, f ++ drop 64 before, 0 ∷ 0 ∷ drop 2 lent)
-finishesInto (refusedTable number place f) before lent = (1, f ++ drop 64 before, number ∷ place ∷ drop 2 lent)
+finishesInto (finished f) before lent = beside (f ++ drop 64 before) (doneInto lent)
+finishesInto (refusedTable number place f) before lent = beside (f ++ drop 64 before) (refusedInto number place lent)
 
 -- the status, the finishes and the answer at exit
 unfoldable pub finishesCall : List ℕ → List ℕ → List ℕ → ℕ × List ℕ × List ℕ

@@ -1,21 +1,28 @@
-// linked: the three functions that C and Rust programs link (include/slotfigures.h, wrapper/), over plain numbers and lent slices.
+// linked: the five functions that C and Rust programs link (include/slotfigures.h, wrapper/), over plain numbers and lent slices.
 //
 // They ask nothing of their caller and promise that the status and each lent slice at exit equal definitions over the image's bytes, or the
 // task table's numbers, and the slices at entry, for what is accepted and what is refused alike (specs/Linked.antt):
 //   slotfigures_judge     `judgeCall`; wrong answers that it rules out: the place before the number, status 0 for a refused image
 //   slotfigures_figures   `figuresCall`; ruled out: the published figure in the tight one's place, a short answer that is written to
+//   slotfigures_edit      `editCall`; ruled out: the highest duration as the lowest, an image edited though the answer is too short
+//   slotfigures_preview   `previewCall`; ruled out: the figures of the image as it is, a table written to by a refused preview
 //   slotfigures_finishes  `finishesCall`; ruled out: another number than 21, finishes of fewer than 64 places that are written to
-// The numbers are those of `image::judge`, `figures::figures` and `graph::finishes`, whose promises hold of them; `WholeFigures` repeats
-// demand 3 of the places that the caller reads, `WholeFinishes` what finishes say of all starts, ends and whole runs.
+// The numbers are those of `image::judge`, `figures::figures`, `edits::edit`, `edits::preview` and `graph::finishes`, whose promises hold of
+// them. Of the places that the caller reads, `WholeFigures` and `WholePreview` repeat demand 3, `WholeEdit` what an edit leaves, and
+// `WholeFinishes` what finishes say of all starts, ends and whole runs.
 ghost use mathlib.Core.Path.{_≡_};
 ghost use mathlib.Core.List.{_∷_};
 ghost use Prim.Native.Nat.{_≤_};
 ghost use lib.ListN.{length, drop};
-ghost use Rattle.linked.specs.Linked.{judgeCall, figuresCall, WholeFigures, finishesCall, WholeFinishes};
+ghost use Rattle.image.specs.Judged.{numberOf};
+ghost use Rattle.figures.specs.Answers.{resultOf};
+ghost use Rattle.linked.specs.Linked.{doneInto, refusedInto, judgeCall, told, figuresCall, WholeFigures, editCall, WholeEdit, previewCall, WholePreview, finishesCall, WholeFinishes};
+use edits::Edited;
 use figures::Answer;
+use image::Refusal;
 use image::Verdict;
 
-// Status: accepted, or the figures or finishes are given.
+// Status: accepted, the edit is done, or the figures or finishes are given.
 const DONE: u64 = 0;
 
 // Status: refused.
@@ -27,6 +34,9 @@ const SHORT: u64 = 2;
 // The number of a refused task table.
 const TASK: u64 = 21;
 
+// The places of an answer that takes figures.
+const FIGURES: usize = 3;
+
 // The first two places of an answer; later ones keep their contents.
 fn put(answer: &mut [u64], first: u64, second: u64)
     requires { ⌜ 2 ≤ length (now answer) ⌝ }
@@ -34,6 +44,25 @@ fn put(answer: &mut [u64], first: u64, second: u64)
 {
     answer[0] = first;
     answer[1] = second;
+}
+
+// Done, and there is nothing to tell: the answer takes 0 and 0.
+fn done(answer: &mut [u64]) -> u64
+    requires { ⌜ 2 ≤ length (now answer) ⌝ }
+    ensures { λ r. ⌜ doneInto (now (answer .entry)) ≡ (r, now (answer .exit)) ⌝ }
+{
+    put(answer, 0, 0);
+    DONE
+}
+
+// Refused: the answer takes the number and the place.
+fn refuse(answer: &mut [u64], r: Refusal, place: usize) -> u64
+    requires { ⌜ 2 ≤ length (now answer) ⌝ }
+    ensures { λ n. ⌜ refusedInto (numberOf r) place (now (answer .entry)) ≡ (n, now (answer .exit)) ⌝ }
+{
+    let number = image::number(r);
+    put(answer, number as u64, place as u64);
+    REFUSED
 }
 
 // Judges an image. The answer takes 0 and the period, the number of places that a table for it needs, or a refusal's number and place.
@@ -52,11 +81,22 @@ pub extern "C" fn slotfigures_judge(image: &[u8], answer: &mut [u64]) -> u64
             put(answer, 0, period as u64);
             DONE
         }
-        Verdict::Refused(r, place) => {
-            let number = image::number(r);
-            put(answer, number as u64, place as u64);
-            REFUSED
+        Verdict::Refused(r, place) => refuse(answer, r, place),
+    }
+}
+
+// The answer takes both figures and the exit count, or a refusal's number and place.
+fn tell(answer: &mut [u64], found: Answer) -> u64
+    requires { ⌜ 3 ≤ length (now answer) ⌝ }
+    ensures { λ r. ⌜ told (resultOf found) (now (answer .entry)) ≡ (r, now (answer .exit)) ⌝ }
+{
+    match found {
+        Answer::Given(f) => {
+            put(answer, f.tight, f.published);
+            answer[2] = f.exits;
+            DONE
         }
+        Answer::Refused(r, place) => refuse(answer, r, place),
     }
 }
 
@@ -66,22 +106,59 @@ pub extern "C" fn slotfigures_figures(image: &[u8], table: &mut [u64], answer: &
     ensures equality { λ r. ⌜ figuresCall (now (image .entry)) (now (table .entry)) (now (answer .entry)) ≡ (r, now (table .exit), now (answer .exit)) ⌝ }
     ensures demand3 { λ r. ⌜ WholeFigures (now (image .entry)) r (now (table .exit)) (now (answer .exit)) ⌝ }
 {
-    if answer.len() < 3 {
+    if answer.len() < FIGURES {
         return SHORT;
     }
     let found = figures::figures(image, table);
-    match found {
-        Answer::Given(f) => {
-            put(answer, f.tight, f.published);
-            answer[2] = f.exits;
-            DONE
-        }
-        Answer::Refused(r, at) => {
-            let number = image::number(r);
-            put(answer, number as u64, at as u64);
-            REFUSED
-        }
+    tell(answer, found)
+}
+
+// Sets one plain block's durations in the image. The answer takes 0 and 0, or a refusal's number and place, and then the image keeps its bytes.
+#[no_mangle]
+pub extern "C" fn slotfigures_edit(
+    image: &mut [u8],
+    node: u64,
+    lowest: u64,
+    highest: u64,
+    answer: &mut [u64],
+) -> u64
+    ensures equality { λ r. ⌜ editCall (now (image .entry)) node lowest highest (now (answer .entry)) ≡ (r, now (image .exit), now (answer .exit)) ⌝ }
+    ensures done { λ r. ⌜ WholeEdit (now (image .entry)) node lowest highest (now (answer .entry)) r (now (image .exit)) ⌝ }
+{
+    if answer.len() < 2 {
+        return SHORT;
     }
+    let edited = edits::edit(image, node as usize, lowest as usize, highest as usize);
+    match edited {
+        Edited::Done => done(answer),
+        Edited::Refused(r, place) => refuse(answer, r, place),
+    }
+}
+
+// What slotfigures_edit on a copy and then slotfigures_figures would give; the image stays as it is.
+#[no_mangle]
+pub extern "C" fn slotfigures_preview(
+    image: &[u8],
+    node: u64,
+    lowest: u64,
+    highest: u64,
+    table: &mut [u64],
+    answer: &mut [u64],
+) -> u64
+    ensures equality { λ r. ⌜ previewCall (now (image .entry)) node lowest highest (now (table .entry)) (now (answer .entry)) ≡ (r, now (table .exit), now (answer .exit)) ⌝ }
+    ensures demand3 { λ r. ⌜ WholePreview (now (image .entry)) node lowest highest (now (table .entry)) (now (answer .entry)) r (now (table .exit)) (now (answer .exit)) ⌝ }
+{
+    if answer.len() < FIGURES {
+        return SHORT;
+    }
+    let found = edits::preview(
+        image,
+        node as usize,
+        lowest as usize,
+        highest as usize,
+        table,
+    );
+    tell(answer, found)
 }
 
 // The finishes of a table of tasks that wait for tasks, eleven numbers to a task. The first 64 places of `finishes` take them, all 0 if the
@@ -106,10 +183,7 @@ pub extern "C" fn slotfigures_finishes(
     let ends = found.finishes;
     figures::fill(finishes, &ends, 64);
     match verdict {
-        graph::Verdict::Accepted => {
-            put(answer, 0, 0);
-            DONE
-        }
+        graph::Verdict::Accepted => done(answer),
         graph::Verdict::Refused(place) => {
             put(answer, TASK, place as u64);
             REFUSED

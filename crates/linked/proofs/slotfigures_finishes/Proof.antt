@@ -33,14 +33,14 @@ fill-requires c κs =
 enum-told : tie.Need-enum-told
 enum-told c = search needs
 
-put-requires : tie.Need-put-requires
-put-requires c κs = search needs
+done-requires : tie.Need-done-requires
+done-requires c κs = search needs
 
 enum-known-verdict : tie.Need-enum-known-verdict
 enum-known-verdict c = search needs
 
-put-requires-2 : tie.Need-put-requires-2
-put-requires-2 c κs = search needs
+put-requires : tie.Need-put-requires
+put-requires c κs = search needs
 
 same-length : tie.Need-same-length
 same-length c = search needs
@@ -54,9 +54,9 @@ returns-3 c =
     let g = c .before .before .before .before .before .before .before .before .before .before .before .before .finishes in
     let f = c .before .before .before .before .before .before .before .before .fill in
     let v = c .before .before .before .before .enum-told .given .1 in
-    let p = c .before .before .put in
+    let p = c .before .before .done in
     let all : length (g .result .finishes) ≡ 64 = search needs in
-    let is = finishes-given (a .table .now) (a .finishes .now) (a .answer .now) (omega arith) (omega arith) (g .result) (g .ensures .0) (f .last .0) (f .ensures) all (p .last .0) v (p .ensures) in
+    let is = finishes-given (a .table .now) (a .finishes .now) (a .answer .now) (omega arith) (omega arith) (g .result) (g .ensures .0) (f .last .0) (f .ensures) all (p .result) (p .last .0) v (p .ensures) in
     (is, whole-finishes (a .table .now) (a .finishes .now) (a .answer .now) _ _ _ is)
 
 same-length-3 : tie.Need-same-length-3
@@ -71,7 +71,7 @@ returns-4 c =
     let g = c .before .before .before .before .before .before .before .before .before .before .before .before .before .finishes in
     let f = c .before .before .before .before .before .before .before .before .before .fill in
     let v = c .before .before .before .before .before .verdict .given in
-    let p = c .before .before .put2 in
+    let p = c .before .before .put in
     let all : length (g .result .finishes) ≡ 64 = search needs in
     let is = finishes-refused (a .table .now) (a .finishes .now) (a .answer .now) (omega arith) (omega arith) (g .result) (g .ensures .0) (f .last .0) (f .ensures) all (v .0 .0) (p .last .0) (v .1) (p .ensures) in
     (is, whole-finishes (a .table .now) (a .finishes .now) (a .answer .now) _ _ _ is)
@@ -86,9 +86,9 @@ slotfigures-finishes-spec =
     slice-aggregate-fill
     fill-requires
     enum-told
-    put-requires
+    done-requires
     enum-known-verdict
-    put-requires-2
+    put-requires
     same-length
     same-length-2
     returns-3

@@ -26,11 +26,8 @@ put-requires c κs = search needs
 enum-known-verdict-2 : tie.Need-enum-known-verdict-2
 enum-known-verdict-2 c = search needs
 
-number-requires : tie.Need-number-requires
-number-requires c κs = search needs
-
-put-requires-2 : tie.Need-put-requires-2
-put-requires-2 c κs = search needs
+refuse-requires : tie.Need-refuse-requires
+refuse-requires c κs = search needs
 
 same-length : tie.Need-same-length
 same-length c = search needs
@@ -48,11 +45,11 @@ same-length-2 c = search needs
 
 returns-3 : tie.Need-returns-3
 returns-3 c =
-    let a = c .before .before .before .before .before .before .before .before .before .before .before .before .args in
-    let j = c .before .before .before .before .before .before .before .before .judge in
-    let v = c .before .before .before .before .before .before .verdict2 .given in
-    judge-refused (a .image .now) (a .answer .now) (omega arith) (j .result .verdict) (j .result .places) (j .ensures) (v .0 .0)
-    (c .before .before .before .before .number .result) (v .0 .1 .0) (c .before .before .put2 .last .0) (v .1) (c .before .before .before .before .number .ensures) (c .before .before .put2 .ensures)
+    let a = c .before .before .before .before .before .before .before .before .before .before .before .args in
+    let j = c .before .before .before .before .before .before .before .judge in
+    let v = c .before .before .before .before .before .verdict2 .given in
+    judge-refused (a .image .now) (a .answer .now) (omega arith) (j .result .verdict) (j .result .places) (j .ensures) (v .0 .0) (v .0 .1 .0) _ (v .1)
+    (c .before .before .refuse .ensures)
 
 pub slotfigures-judge-spec : {M : Type 1} → statement M
 slotfigures-judge-spec =
@@ -64,8 +61,7 @@ slotfigures-judge-spec =
     period-requires
     put-requires
     enum-known-verdict-2
-    number-requires
-    put-requires-2
+    refuse-requires
     same-length
     returns-2
     same-length-2

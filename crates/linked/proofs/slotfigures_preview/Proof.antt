@@ -1,0 +1,42 @@
+-- The answer takes what `preview` found, and that is the definition's, with demand 3 of the edited image besides.
+use borrow.Author.Needs.{needs}
+use native.Mathlib.Omega.{arith}
+use Rattle.edits.specs.Edits.{previewOf, previewTable}
+use Rattle.linked.proofs.Calls.{told-short, told-call, no-preview, told-preview}
+use Rattle.linked.proofs.slotfigures_preview.Statement.{statement}
+use Rattle.linked.proofs.slotfigures_preview.Tie as tie
+
+returns : tie.Need-returns
+returns c =
+    let a = c .before .before .before .before .args in (
+      told-short _ _ (a .table .now) (a .answer .now) (omega arith),
+      no-preview (a .image .now) (a .node) (a .lowest) (a .highest) (a .table .now) (a .answer .now) 2 (a .table .now) (a .answer .now) (omega arith),
+    )
+
+preview-requires : tie.Need-preview-requires
+preview-requires c κs = search needs
+
+tell-requires : tie.Need-tell-requires
+tell-requires c κs = search needs
+
+same-length : tie.Need-same-length
+same-length c = search needs
+
+same-length-2 : tie.Need-same-length-2
+same-length-2 c = search needs
+
+returns-2 : tie.Need-returns-2
+returns-2 c =
+    let a = c .before .before .before .before .before .before .before .before .before .before .before .before .args in
+    let g = c .before .before .before .before .before .before .preview in
+    let t = c .before .before .tell in
+    let f = g .last .1 .1 .1 .1 .0 in (
+      told-call (previewOf (a .image .now) (a .node) (a .lowest) (a .highest) (a .table .now)) (previewTable (a .image .now) (a .node) (a .lowest) (a .highest) (a .table .now))
+          (a .table .now) (a .answer .now) (omega arith) (g .result) f (g .ensures .0 .result) (g .ensures .0 .table) (t .result) (t .last .0) (t .ensures),
+      told-preview (a .image .now) (a .node) (a .lowest) (a .highest) (a .table .now) (a .answer .now) (g .result) (t .result) f (t .last .0)
+          (g .ensures .1) (t .ensures),
+    )
+
+pub slotfigures-preview-spec : {M : Type 1} → statement M
+slotfigures-preview-spec =
+    tie.close (tie.spec returns preview-requires tell-requires same-length same-length-2 returns-2)
