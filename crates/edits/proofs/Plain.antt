@@ -30,7 +30,7 @@ in-range lo hi e =
 
 pub range-in : (lo hi : ℕ) → Durations lo hi → plainOk lo hi ≡ true
 unfolding plainOk
-range-in lo hi d = simp (le-leb hi 65535 (d .most), le-leb lo hi (d .order), le-leb (hi - lo) 63 (d .near))
+range-in lo hi d = simp (le-leb hi 65535 (d .most), le-leb lo hi (d .order), le-leb (hi - lo) 63 (omega (arith, d .near)))
 
 -- a node that is plain has tag 3
 plain-tag : (s : List ℕ) (t3 t4 t5 t6 : Bool) (p : PlainNumbers) (b : BusBlock) (c d : Children) (l : LoopNumbers) (lo hi : ℕ)

@@ -134,7 +134,7 @@ module _ (s : List ℕ) (node lo hi : ℕ) (f : Found) (h : Finding s node lo hi
 
       when-table : (x : Refusal) (p : ℕ) → PreviewCondition s node lo hi before x p → r ≡ NotGiven x p
       when-table x p (no-edit _ _ c) = absurd (not-refused x p (edit-whenever s node lo hi x p c))
-      when-table Table _ (short-table d l) = by-answer r (rw (lt-ltb (length before) (periodOf (d .task)) l) at (answered d))
+      when-table Table _ (short-table d l) = by-answer r (rw (lt-ltb (length before) (periodOf (d .task)) (omega (arith, l))) at (answered d))
         where
           by-answer : (x : Answer) → resultOf x ≡ refused 10 (length s) → x ≡ NotGiven Table (length s)
           by-answer (Given t) w = absurd (let z : _≡_ {A = ℕ} 0 1 = cc in omega arith)
@@ -155,7 +155,7 @@ module _ (s : List ℕ) (node lo hi : ℕ) (f : Found) (h : Finding s node lo hi
       module _ (d3 : Demand3 (withDurations s (place + 3) lo hi) r after) (d2 : Demand2 (withDurations s (place + 3) lo hi) r) where
         pub given-foreseen : Foreseen s node lo hi before r after
         given-foreseen d l =
-            by-answer r refl (rw (le-ltb (length before) (periodOf (d .task)) l) at (answered d))
+            by-answer r refl (rw (le-ltb (length before) (periodOf (d .task)) (omega (arith, l))) at (answered d))
           where
             by-answer : (x : Answer) → r ≡ x → resultOf x ≡ figuresOf (taskOf (imageWith s node lo hi) (d .task)) → Quoted (imageWith s node lo hi) (d .task) r after
             by-answer (Given t) q w =

@@ -137,7 +137,7 @@ module _ (s : List ℕ) (node lo hi : ℕ) (lent : List ℕ) where
   pub whole-edit : (status : ℕ) (image found : List ℕ) → editCall s node lo hi lent ≡ (status, image, found) → WholeEdit s node lo hi lent status image
   unfolding editCall
   whole-edit status image found e d long =
-      let q = rw (le-ltb (length lent) 2 long, edit-is s node lo hi d, change-is s node lo hi d) at e in (
+      let q = rw (le-ltb (length lent) 2 (omega (arith, long)), edit-is s node lo hi d, change-is s node lo hi d) at e in (
         sym (ap (λ (x : ℕ × List ℕ × List ℕ). x .0) q),
         subst (Leaves s (d .task) node lo hi) (ap (λ (x : ℕ × List ℕ × List ℕ). x .1) q) (leaves s node lo hi d),
       )
@@ -151,7 +151,7 @@ no-preview s node lo hi before lent status table found short d room long = absur
 pub told-preview : (s : List ℕ) (node lo hi : ℕ) (before lent : List ℕ) (a : Answer) (status : ℕ) (table found : List ℕ)
     → Foreseen s node lo hi before a table → told (resultOf a) lent ≡ (status, found) → WholePreview s node lo hi before lent status table found
 told-preview s node lo hi before lent a status table found f e d room long =
-    let q = f d room in
+    let q = f d (omega (arith, room)) in
     let t : told (resultOf (Given (q .totals))) lent ≡ (status, found) = rw (q .given) at e in
     let p : q .totals .tight ∷ q .totals .published ∷ q .totals .exits ∷ drop 3 lent ≡ found = ap (λ (x : ℕ × List ℕ). x .1) t in
     (sym (ap (λ (x : ℕ × List ℕ). x .0) t), rw (← p) (q .demand3))
