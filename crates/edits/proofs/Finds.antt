@@ -1,6 +1,6 @@
 -- Which block an edit finds, test by test; and an edit is refused if and only if the condition for it holds.
 use borrow.Author.Tests.{lt-ltb, le-ltb, eq-eqb, ne-eqb}
-use mathlib.Core.Path.{_≡_, refl, sym, _∙_}
+use mathlib.Core.Path.{_≡_, refl, sym, _∙_, ap}
 use mathlib.Core.Bool.{Bool, true, false, cond}
 use mathlib.Core.List.{List}
 use lib.ListN.{length}
@@ -24,6 +24,13 @@ use Rattle.edits.specs.Steps.{Finding}
 use Rattle.edits.proofs.Plain.{in-range, range-in, node-was, is-plain, plain-is}
 use Rattle.edits.proofs.Standing.{inside}
 
+-- what `find` knows where it has read the tag of the node's field
+pub record Tagged (s : List ℕ) (node : ℕ) (k : Task) (at tag : ℕ) : Type 0 where
+  pub judged-so : judged s ≡ Accepted k
+  pub exists : node < k .nodes
+  pub place : at ≡ placeOf s node
+  pub read : tag ≡ byteAt s at
+
 module _ (s : List ℕ) (node lo hi : ℕ) where
   -- ---- what `find` gives at each of its returns
 
@@ -34,41 +41,43 @@ module _ (s : List ℕ) (node lo hi : ℕ) where
   unfolding found
   refused-found r place e = not-there r place (rw e)
 
-  module _ (k : Task) (e : judged s ≡ Accepted k) where
-    no-node : k .nodes ≤ node → found s node lo hi ≡ NotFound Block (length s)
+  pub none-found : (k : Task) → judged s ≡ Accepted k → k .nodes ≤ node → Finding s node lo hi (NotFound Block (length s))
+  unfolding found
+  none-found k e l = not-there Block (length s) (rw (e, le-ltb node (k .nodes) l))
+
+  module _ (k : Task) (at tag : ℕ) (t : Tagged s node k at tag) where
+    tag-is : tag ≡ byteAt s (placeOf s node)
+    tag-is = t .read ∙ ap (byteAt s) (t .place)
+
+    pub other-found : (tag ≡ 3 → ⊥) → Finding s node lo hi (NotFound Block (length s))
     unfolding found
-    no-node l = rw (e, le-ltb node (k .nodes) l)
+    other-found n =
+        not-there Block (length s)
+        (rw (t .judged-so, lt-ltb node (k .nodes) (t .exists), ne-eqb (byteAt s (placeOf s node)) 3 (λ q. n (tag-is ∙ q))))
 
-    pub none-found : k .nodes ≤ node → Finding s node lo hi (NotFound Block (length s))
-    none-found l = not-there Block (length s) (no-node l)
+    module _ (three : tag ≡ 3) where
+      plain : byteAt s (placeOf s node) ≡ 3
+      plain = sym tag-is ∙ three
 
-    module _ (exists : node < k .nodes) where
-      not-plain : (byteAt s (placeOf s node) ≡ 3 → ⊥) → found s node lo hi ≡ NotFound Block (length s)
+      by-range : (ok : Bool) → plainOk lo hi ≡ ok → found s node lo hi ≡ cond ok (At at) (NotFound Value at)
       unfolding found
-      not-plain n = rw (e, lt-ltb node (k .nodes) exists, ne-eqb (byteAt s (placeOf s node)) 3 n)
+      by-range ok p = rw (t .judged-so, lt-ltb node (k .nodes) (t .exists), eq-eqb (byteAt s (placeOf s node)) 3 plain, p, t .place)
 
-      pub other-found : (byteAt s (placeOf s node) ≡ 3 → ⊥) → Finding s node lo hi (NotFound Block (length s))
-      other-found n = not-there Block (length s) (not-plain n)
+      pub range-found : plainOk lo hi ≡ false → Finding s node lo hi (NotFound Value at)
+      range-found p = not-there Value at (by-range false p)
 
-      module _ (tag : byteAt s (placeOf s node) ≡ 3) where
-        by-range : (t : Bool) → plainOk lo hi ≡ t → found s node lo hi ≡ cond t (At (placeOf s node)) (NotFound Value (placeOf s node))
-        unfolding found
-        by-range t p = rw (e, lt-ltb node (k .nodes) exists, eq-eqb (byteAt s (placeOf s node)) 3 tag, p)
-
-        pub range-found : plainOk lo hi ≡ false → Finding s node lo hi (NotFound Value (placeOf s node))
-        range-found p = not-there Value (placeOf s node) (by-range false p)
-
-        pub at-found : plainOk lo hi ≡ true → Finding s node lo hi (At (placeOf s node))
-        at-found p =
-            let a = when-accepted s k e in
-            let r = in-range lo hi p in
-            let d : Editable s node lo hi = record { task = k; accepting = a; block = record { exists = exists; plain = (_, _, node-was s node tag) }; durations = r } in
-            record {
-              is = sym (by-range true p);
-              at = λ place q.
-                  let here : placeOf s node ≡ place = cc in
-                  (sym here, record { inside = omega (arith, inside s node lo hi d); low = omega (arith, r .order, r .most); high = r .most }, longest s k a);
-            }
+      pub at-found : plainOk lo hi ≡ true → Finding s node lo hi (At at)
+      at-found p =
+          let a = when-accepted s k (t .judged-so) in
+          let r = in-range lo hi p in
+          let d : Editable s node lo hi = record { task = k; accepting = a; block = record { exists = t .exists; plain = (_, _, node-was s node plain) }; durations = r } in
+          record {
+            is = sym (by-range true p);
+            at = λ place q.
+                let here : at ≡ place = cc in
+                let there = t .place in
+                (sym here ∙ there, record { inside = omega (arith, inside s node lo hi d); low = omega (arith, r .order, r .most); high = r .most }, longest s k a);
+          }
 
   -- ---- the conditions
 

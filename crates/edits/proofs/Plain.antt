@@ -26,7 +26,7 @@ unfolding plainOk
 in-range lo hi e =
     let p = both (leb hi 65535) (leb lo hi && leb (hi - lo) 63) e in
     let q = both (leb lo hi) (leb (hi - lo) 63) (p .1) in
-    record { most = leb-true hi 65535 (p .0); order = leb-true lo hi (q .0); near = leb-true (hi - lo) 63 (q .1) }
+    record { most = leb-true hi 65535 (p .0); order = leb-true lo hi (q .0); near = omega (arith, leb-true (hi - lo) 63 (q .1)) }
 
 pub range-in : (lo hi : ℕ) → Durations lo hi → plainOk lo hi ≡ true
 unfolding plainOk

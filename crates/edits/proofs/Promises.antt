@@ -129,7 +129,7 @@ module _ (s : List ℕ) (node lo hi : ℕ) (f : Found) (h : Finding s node lo hi
           by-length d true l w =
               let a : Table ≡ x = sym (is-table x (let n : numberOf x ≡ 10 = cc in n)) in
               let b : length s ≡ p = cc in
-              rw (← a, ← b) (short-table d (ltb-true _ _ l))
+              rw (← a, ← b) (short-table d (omega (arith, ltb-true (length before) (periodOf (d .task)) l)))
           by-length d false l w = absurd (let z : _≡_ {A = ℕ} 0 1 = cc in omega arith)
 
       when-table : (x : Refusal) (p : ℕ) → PreviewCondition s node lo hi before x p → r ≡ NotGiven x p

@@ -1,7 +1,7 @@
 -- A possible edit leaves every field where it stands, and every other node as it was; the image stays accepted, with the same task.
 use mathlib.Core.Path.{_≡_, sym, _∙_, subst}
 use mathlib.Core.Bool.{true}
-use mathlib.Core.Logic.{_⊎_, inl, inr}
+use mathlib.Core.Logic.{⊎-elim}
 use mathlib.Core.List.{List}
 use lib.ListN.{length}
 use borrow.Author.Tests.{eqb-true}
@@ -207,14 +207,10 @@ module _ (s : List ℕ) (node lo hi : ℕ) (d : Editable s node lo hi) where
   leaves = record {
     accepted = accepted-when after (d .task) still-accepting;
     long = long;
-    outside = spared;
+    outside = λ i. ⊎-elim (λ l. written-before s (placeOf s node + 3) lo hi i (omega (arith, l))) (λ l. written-behind s (placeOf s node + 3) lo hi i (omega (arith, l)));
     says = node-same;
     others = node-other;
     starts = starts-same;
     deep = λ n l. sym (weight-same n (omega (arith, d .accepting .last)) .deep);
     visited = λ n l. sym (weight-same n (omega (arith, d .accepting .last)) .long);
   }
-    where
-      spared : (i : ℕ) → (i < placeOf s node + 3) ⊎ (placeOf s node + 7 ≤ i) → byteAt after i ≡ byteAt s i
-      spared i (inl l) = written-before s (placeOf s node + 3) lo hi i l
-      spared i (inr l) = written-behind s (placeOf s node + 3) lo hi i (omega arith)

@@ -1,15 +1,26 @@
 -- The verdict is the definition's, and the place beside it is the node's; each return is one law of Finds.
 use borrow.Author.Needs.{needs}
 use borrow.Author.Tests.{not-true, not-false}
-use mathlib.Core.Path.{_≡_, sym, _∙_, ap}
+use mathlib.Core.Path.{_≡_, sym, _∙_}
 use lib.ListN.{getD}
 use native.Mathlib.Omega.{arith}
-use Prim.Native.Nat.{ℕ, _<_}
-use Rattle.image.specs.Bytes.{byteAt}
-use Rattle.edits.specs.Edits.{placeOf}
-use Rattle.edits.proofs.Finds.{refused-found, none-found, other-found, range-found, at-found}
+use Prim.Native.Nat.{_<_}
+use Rattle.edits.proofs.Finds.{Tagged, refused-found, none-found, other-found, range-found, at-found}
 use Rattle.edits.proofs.find.Statement.{statement}
 use Rattle.edits.proofs.find.Tie as tie
+
+-- where the tag is read
+tagged : (c : tie.After-byte) →
+    let a = c .before .before .before .before .before .before .before .before .before .args in
+    let j = c .before .before .before .before .before .before .before .judge in
+    let v = c .before .before .before .before .verdict2 .given in
+    Tagged (a .image .now) (a .node) (v .0 .0) (getD (j .result .places) (a .node) 0) (c .byte .result)
+tagged c =
+    let a = c .before .before .before .before .before .before .before .before .before .args in
+    let j = c .before .before .before .before .before .before .before .judge in
+    let v = c .before .before .before .before .verdict2 .given in
+    let l : a .node < v .0 .0 .nodes = omega arith in
+    record { judged-so = sym (j .ensures .is) ∙ v .1; exists = l; place = j .ensures .sound (v .0 .0) (v .1) .placed (a .node) l; read = c .byte .ensures .0 }
 
 judge-requires : tie.Need-judge-requires
 judge-requires c κs = search needs
@@ -45,13 +56,7 @@ byte-requires c κs = search needs
 returns-2 : tie.Need-returns-2
 returns-2 c =
     let a = c .before .before .before .before .before .before .before .before .before .before .args in
-    let j = c .before .before .before .before .before .before .before .before .judge in
-    let v = c .before .before .before .before .before .verdict2 .given in
-    let l : a .node < v .0 .0 .nodes = omega arith in
-    let p : getD (j .result .places) (a .node) 0 ≡ placeOf (a .image .now) (a .node) = j .ensures .sound (v .0 .0) (v .1) .placed (a .node) l in
-    let b : c .before .byte .result ≡ byteAt (a .image .now) (placeOf (a .image .now) (a .node)) =
-    c .before .byte .ensures .0 ∙ ap (λ (n : ℕ). byteAt (a .image .now) n) p in
-    other-found (a .image .now) (a .node) (a .lowest) (a .highest) (v .0 .0) (sym (j .ensures .is) ∙ v .1) l (λ q. omega arith)
+    other-found (a .image .now) (a .node) (a .lowest) (a .highest) _ _ _ (tagged (c .before)) (λ q. omega arith)
 
 plain-ok-requires : tie.Need-plain-ok-requires
 plain-ok-requires c κs = search needs
@@ -59,15 +64,8 @@ plain-ok-requires c κs = search needs
 returns-3 : tie.Need-returns-3
 returns-3 c =
     let a = c .before .before .before .before .before .before .before .before .before .before .before .before .args in
-    let j = c .before .before .before .before .before .before .before .before .before .before .judge in
-    let v = c .before .before .before .before .before .before .before .verdict2 .given in
-    let l : a .node < v .0 .0 .nodes = omega arith in
-    let p : getD (j .result .places) (a .node) 0 ≡ placeOf (a .image .now) (a .node) = j .ensures .sound (v .0 .0) (v .1) .placed (a .node) l in
-    let b : c .before .before .before .byte .result ≡ byteAt (a .image .now) (placeOf (a .image .now) (a .node)) =
-    c .before .before .before .byte .ensures .0 ∙ ap (λ (n : ℕ). byteAt (a .image .now) n) p in
-    rw p
-    (range-found (a .image .now) (a .node) (a .lowest) (a .highest) (v .0 .0) (sym (j .ensures .is) ∙ v .1) l (omega arith)
-    (sym (c .before .plain-ok .ensures) ∙ not-true _ (c .if3 .taken)))
+    range-found (a .image .now) (a .node) (a .lowest) (a .highest) _ _ _ (tagged (c .before .before .before)) (omega arith)
+    (sym (c .before .plain-ok .ensures) ∙ not-true _ (c .if3 .taken))
 
 returns-4 : tie.Need-returns-4
 returns-4 c =
@@ -79,15 +77,8 @@ returns-4 c =
 returns-5 : tie.Need-returns-5
 returns-5 c =
     let a = c .before .before .before .before .before .before .before .before .before .before .before .before .args in
-    let j = c .before .before .before .before .before .before .before .before .before .before .judge in
-    let v = c .before .before .before .before .before .before .before .verdict2 .given in
-    let l : a .node < v .0 .0 .nodes = omega arith in
-    let p : getD (j .result .places) (a .node) 0 ≡ placeOf (a .image .now) (a .node) = j .ensures .sound (v .0 .0) (v .1) .placed (a .node) l in
-    let b : c .before .before .before .byte .result ≡ byteAt (a .image .now) (placeOf (a .image .now) (a .node)) =
-    c .before .before .before .byte .ensures .0 ∙ ap (λ (n : ℕ). byteAt (a .image .now) n) p in
-    rw p
-    (at-found (a .image .now) (a .node) (a .lowest) (a .highest) (v .0 .0) (sym (j .ensures .is) ∙ v .1) l (omega arith)
-    (sym (c .before .plain-ok .ensures) ∙ not-false _ (c .if3 .left)))
+    at-found (a .image .now) (a .node) (a .lowest) (a .highest) _ _ _ (tagged (c .before .before .before)) (omega arith)
+    (sym (c .before .plain-ok .ensures) ∙ not-false _ (c .if3 .left))
 
 pub find-spec : {M : Type 1} → statement M
 find-spec =

@@ -1,5 +1,6 @@
 -- Four stores from the body on; each byte is below 256.
 use borrow.Author.Needs.{needs}
+use mathlib.Core.Path.{refl}
 use lib.ListN.{length-set}
 use native.Mathlib.Omega.{arith}
 use Rattle.edits.specs.Edits.{withDurations}
@@ -47,7 +48,7 @@ same-length c = search needs
 
 returns : tie.Need-returns
 unfolding withDurations
-returns c = search needs
+returns c = refl
 
 pub set-durations-spec : {M : Type 1} → statement M
 set-durations-spec =
