@@ -1,4 +1,5 @@
-/* Both figures, the exit count and the table of exit offsets of a task image, and the finishes of tasks that wait for tasks, from C.
+/* Both figures, the exit count and the table of exit offsets of a task image, the same after a change of one block's durations, and the
+ * finishes of tasks that wait for tasks, from C.
  *
  * Link target/staticlib/liblinked.a (`rt staticlib linked`; x86-64 Linux) beside the C library. The functions are those of
  * crates/linked/src/lib.rt, where they are proved to leave exactly what is said here, for every image, every table and every array.
@@ -6,7 +7,7 @@
  * Every array is a pointer and then its number of elements. What no proof covers is the caller's side:
  *   - a pointer is not NULL and is aligned for its type, even where the number is 0 (nothing is then read or written through it);
  *   - the array has that many elements, and the arrays of one call do not overlap;
- *   - slotfigures_figures has 1 MiB of stack, each of the others 32 KiB.
+ *   - slotfigures_figures and slotfigures_preview have 1 MiB of stack, each of the others 32 KiB.
  * Nothing is kept between calls, and no memory is allocated: calls from several threads do not disturb each other.
  */
 #ifndef SLOTFIGURES_H
@@ -21,25 +22,29 @@ extern "C" {
 
 /* The status that a call returns. */
 enum {
-    SLOTFIGURES_DONE = 0,    /* the image is accepted, or its figures or the finishes are given */
+    SLOTFIGURES_DONE = 0,    /* the image is accepted or edited, or its figures, those of the preview or the finishes are given */
     SLOTFIGURES_REFUSED = 1, /* the answer's first two places hold the refusal's number and its place */
     SLOTFIGURES_SHORT = 2    /* the answer or the finishes have too few places; every array keeps its contents and nothing is judged */
 };
 
 /* The number of a refusal. Of an image the first that holds is answered: fields are judged from the front, within one in the order
- * head cut, 2, 3, 4, body cut, 5, 6; then 7, 8, 9, 10. Its place is the byte position of the field's tag for 1 to 6 and the
- * image's length for 7 to 10. Of a task table the number is 21, and its place is an entry's index, or 0 for the table's size. */
+ * head cut, 2, 3, 4, body cut, 5, 6; then 7, 8, 9; then, where a block is named, 19 and 5 of the durations given for it; 10 is the last.
+ * Its place is the byte position of the field's tag for 1 to 6, that of the block's field for the durations given, and the image's length
+ * for 7 to 10 and 19. Of a task table the number is 21, and its place is an entry's index, or 0 for the table's size. */
 enum {
     SLOTFIGURES_CUT = 1,        /* "cut": 1 or 2 bytes left where a field's head should stand, or a body with bytes missing */
     SLOTFIGURES_TAG = 2,        /* "tag": the first field's tag is not 1, the second's not 2, or a later one's not 3 to 7 */
     SLOTFIGURES_FULL = 3,       /* "full": a 257th node field */
     SLOTFIGURES_LENGTH = 4,     /* "length": a body length that the tag does not permit */
-    SLOTFIGURES_VALUE = 5,      /* "value": a number that breaks the rules of its field, order and products included */
+    SLOTFIGURES_VALUE = 5,      /* "value": a number that breaks the rules of its field, order and products included; or the durations
+                                   given for a block do */
     SLOTFIGURES_FORWARD = 6,    /* "forward": a child number not below the node's own */
     SLOTFIGURES_UNFINISHED = 7, /* "unfinished": the image ends, between fields, before a node field */
     SLOTFIGURES_DEEP = 8,       /* "deep": the entry's depth is above 24 */
     SLOTFIGURES_LONG = 9,       /* "long": the entry's visits are above 100,000 */
-    SLOTFIGURES_TABLE = 10,     /* "table": the table has fewer places than the period; slotfigures_figures only */
+    SLOTFIGURES_TABLE = 10,     /* "table": the table has fewer places than the period; slotfigures_figures and slotfigures_preview only */
+    SLOTFIGURES_BLOCK = 19,     /* "block": the node named does not exist or is no plain block; slotfigures_edit and slotfigures_preview
+                                   only */
     SLOTFIGURES_TASK = 21       /* "task": a table size outside 1 to 64, or else the first entry with a number out of range or a
                                    predecessor not earlier; slotfigures_finishes only */
 };
@@ -70,6 +75,29 @@ uint64_t slotfigures_judge(const uint8_t *image, size_t image_length, uint64_t *
  */
 uint64_t slotfigures_figures(const uint8_t *image, size_t image_length, uint64_t *table, size_t table_length,
                              uint64_t *answer, size_t answer_length);
+
+/* Sets the durations of one plain block in an image: the four bytes of its field's body, and no other byte.
+ *   image    the task image's bytes, which are written: the answer may not overlap them. DONE: the durations are set, and the edited
+ *            image is accepted too. Otherwise every byte is as it was.
+ *   node     the block's number. Nodes are numbered from 0 as they stand in the image: its third field is node 0, its last the entry.
+ *   lowest, highest   the durations, in cycles: highest at most 65,535, lowest at most highest, and at most 63 less. All 64 bits of each
+ *            number count.
+ *   answer   at least 2 places. DONE: 0 and 0.
+ *            REFUSED: the number, 1 to 9 or 19, and the place. Later places keep their contents.
+ */
+uint64_t slotfigures_edit(uint8_t *image, size_t image_length, uint64_t node, uint64_t lowest, uint64_t highest,
+                          uint64_t *answer, size_t answer_length);
+
+/* Works out what the figures would be after an edit, and leaves the image alone: what slotfigures_figures gives of a copy that
+ * slotfigures_edit has edited.
+ *   image    the task image's bytes
+ *   node, lowest, highest   as for slotfigures_edit
+ *   table    at least as many places as the period. DONE: filled as slotfigures_figures would. Otherwise the table keeps its contents.
+ *   answer   at least 3 places. DONE: the tight figure, the published figure and the number of exit offsets.
+ *            REFUSED: the number, 1 to 10 or 19, and the place. Later places keep their contents.
+ */
+uint64_t slotfigures_preview(const uint8_t *image, size_t image_length, uint64_t node, uint64_t lowest, uint64_t highest,
+                             uint64_t *table, size_t table_length, uint64_t *answer, size_t answer_length);
 
 /* An entry of a table of tasks that wait for tasks: eleven numbers. */
 struct slotfigures_task {

@@ -1,8 +1,10 @@
 // The safe wrapper on the cases of cases.txt, from standard input: for each, tables of 0 to period + 3 places (13 for a refused image), filled
-// before the call and compared after it; and the stack that the header says is enough, 1 MiB for figures and 32 KiB for each of the others.
+// before the call and compared after it; and the stack that the header says is enough, 1 MiB for figures and preview and 32 KiB for each of the
+// others.
 // Writes 'ok NAME' or 'wrong NAME: ..' for each.
 use slotfigures::{
-    figures, finishes, judge, period, Figures, Refusal, Task, MOST_TASKS, MOST_WAITS, NO_TIME,
+    edit, figures, finishes, judge, period, preview, Figures, Refusal, Task, MOST_TASKS,
+    MOST_WAITS, NO_TIME,
 };
 use std::io::Read;
 
@@ -110,27 +112,50 @@ fn wrong(image: &[u8], expected: &Expected) -> Option<String> {
     None
 }
 
-// Calls as deep as they come: depth 24, all loops, with the most halvings of counts that 100,000 visits permit.
-fn deepest() -> Vec<u8> {
-    let mut image = read_image("010003020500 02000104 040003020202");
-    for node in 0..23u8 {
-        let count = if node < 7 { 5 } else { 1 };
-        image.extend([7, 0, 6, 0, count, 0, count, 0, node]);
+// Calls as deep as they come: depth 24, all loops over node 0, with the most halvings of counts that 100,000 visits permit. From 4.
+fn deepest(blocks: &[&str]) -> Vec<u8> {
+    let mut image = read_image(&format!("010003020500 02000104 {}", blocks.concat()));
+    let mut body = 0;
+    for i in 0..23 {
+        let count = if i < 7 { 5 } else { 1 };
+        image.extend([7, 0, 6, 0, count, 0, count, 0, body]);
+        body = blocks.len() as u8 + i;
     }
     image
 }
 
+// Always accesses 2; plain, 1 cycle.
+const A2: &str = "040003020202";
+const PLAIN: &str = "03000400010001";
+
+// Whether that time is both figures and that of the one exit offset.
+fn takes(given: Result<Figures, Refusal>, table: [u64; 10], time: u64, exit: usize) -> bool {
+    let mut times = [NO_TIME; 10];
+    times[exit] = time;
+    let figures = Figures {
+        tight: time,
+        published: time,
+        exits: 1,
+    };
+    given == Ok(figures) && table == times
+}
+
 // A2 from 4 takes 8 and ends at 2, from 2 it takes 2 and ends at 4: 78,125 in turn, 8 first and last, end at 2.
+const DEEPEST: u64 = 39_063 * 8 + 39_062 * 2;
+
 fn deepest_calls() -> bool {
     let mut table = [NO_TIME; 10];
-    let time = 39_063 * 8 + 39_062 * 2;
-    figures(&deepest(), &mut table)
-        == Ok(Figures {
-            tight: time,
-            published: time,
-            exits: 1,
-        })
-        && table[2] == time
+    let given = figures(&deepest(&[A2]), &mut table);
+    takes(given, table, DEEPEST, 2)
+}
+
+// The same with a plain block beside it, which the entry does not reach; and over a plain block: 78,125 times 3 cycles from 4 end at 9.
+fn deepest_previews() -> bool {
+    let mut table = [NO_TIME; 10];
+    let beside = preview(&deepest(&[A2, PLAIN]), 1, 3, 3, &mut table);
+    let mut other = [NO_TIME; 10];
+    let below = preview(&deepest(&[PLAIN]), 0, 3, 3, &mut other);
+    takes(beside, table, DEEPEST, 2) && takes(below, other, 3 * 78_125, 9)
 }
 
 // The most nodes: a block and 255 sequences of 16 children.
@@ -140,6 +165,19 @@ fn most_nodes() -> bool {
         image.extend([&[5, 0, 32][..], &[0; 32]].concat());
     }
     period(&image) == Ok(10)
+}
+
+// The last of the most nodes, all plain, and the first of the longest image: a block and 255 sequences of 16 children, all 256 starts.
+fn edited() -> bool {
+    let mut nodes = read_image("010003020500 02000104");
+    nodes.extend(read_image(PLAIN).repeat(256));
+    let mut longest = read_image("010003101000 020100");
+    longest.extend(0..=255);
+    longest.extend(read_image(PLAIN));
+    longest.extend([&[5, 0, 32][..], &[0; 32]].concat().repeat(255));
+    let good = edit(&mut nodes, 255, 3, 4).is_ok() && edit(&mut longest, 0, 3, 4).is_ok();
+    let four = [0, 3, 0, 4];
+    good && nodes[1798..] == four && longest.len() == 9197 && longest[268..272] == four
 }
 
 // The largest table: 64 tasks of the largest time on one core, each waiting for as many as it may of those before it.
@@ -189,7 +227,10 @@ fn main() {
     }
     let deepest = within_the_stack(1024, deepest_calls);
     tell("the deepest calls in 1 MiB of stack", deepest);
+    let previews = within_the_stack(1024, deepest_previews);
+    tell("the deepest previews in 1 MiB of stack", previews);
     tell("judge in 32 KiB of stack", within_the_stack(32, most_nodes));
+    tell("edit in 32 KiB of stack", within_the_stack(32, edited));
     let largest = within_the_stack(32, largest_table);
     tell("finishes in 32 KiB of stack", largest);
     std::process::exit(failed as i32);

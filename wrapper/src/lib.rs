@@ -1,9 +1,9 @@
-//! Both figures, the exit count and the table of exit offsets of a task image, and the finishes of tasks that wait for tasks: a safe wrapper
-//! of the proved functions of `crates/linked`, which `include/slotfigures.h` describes. Every length that is passed on is a slice's own, and
-//! what is refused is refused there.
+//! Both figures, the exit count and the table of exit offsets of a task image, the same after a change of one block's durations, and the
+//! finishes of tasks that wait for tasks: a safe wrapper of the proved functions of `crates/linked`, which `include/slotfigures.h` describes.
+//! Every length that is passed on is a slice's own, and what is refused is refused there.
 //!
-//! [`figures`] is to have 1 MiB of stack, the others 32 KiB. A spawned thread has 2 MiB unless `std::thread::Builder::stack_size` says
-//! otherwise; where the stack ends, the program does.
+//! [`figures`] and [`preview`] are to have 1 MiB of stack, the others 32 KiB. A spawned thread has 2 MiB unless
+//! `std::thread::Builder::stack_size` says otherwise; where the stack ends, the program does.
 
 use std::fmt;
 
@@ -18,6 +18,26 @@ extern "C" {
     fn slotfigures_figures(
         image: *const u8,
         image_length: usize,
+        table: *mut u64,
+        table_length: usize,
+        answer: *mut u64,
+        answer_length: usize,
+    ) -> u64;
+    fn slotfigures_edit(
+        image: *mut u8,
+        image_length: usize,
+        node: u64,
+        lowest: u64,
+        highest: u64,
+        answer: *mut u64,
+        answer_length: usize,
+    ) -> u64;
+    fn slotfigures_preview(
+        image: *const u8,
+        image_length: usize,
+        node: u64,
+        lowest: u64,
+        highest: u64,
         table: *mut u64,
         table_length: usize,
         answer: *mut u64,
@@ -80,7 +100,9 @@ impl Task<'_> {
 }
 
 /// Why nothing is given: the number, its word and its place. The numbers 1 to 10 are told of an image, and the place is a byte position or,
-/// for 7 to 10, the image's length; 21 is told of a table of tasks, and the place is the index of an entry, or 0 for the table's size.
+/// for 7 to 10, the image's length. Of a change, 19 is told of a node that does not exist or is no plain block, and the place is the image's
+/// length; 5 also of durations out of range, and the place is that of the block's field. 21 is told of a table of tasks, and the place is the
+/// index of an entry, or 0 for the table's size.
 #[derive(Clone, Copy, Debug, PartialEq, Eq)]
 pub struct Refusal {
     pub number: u64,
@@ -101,6 +123,7 @@ fn word(number: u64) -> &'static str {
         8 => "deep",
         9 => "long",
         10 => "table",
+        19 => "block",
         21 => "task",
         _ => unreachable!("no refusal has the number {number}"),
     }
@@ -148,11 +171,20 @@ pub fn judge(image: &[u8]) -> Result<(), Refusal> {
     period(image).map(|_| ())
 }
 
+// What a call for figures leaves in its answer.
+fn figured(call: impl FnOnce(&mut [u64]) -> u64) -> Result<Figures, Refusal> {
+    told(call).map(|[tight, published, exits]| Figures {
+        tight,
+        published,
+        exits,
+    })
+}
+
 /// Both figures and the exit count of an image. Place o of the table, for each offset o below the period, then holds the longest time
 /// of a run that ends there, or [`NO_TIME`]; later places keep their contents, and after a refusal (numbers 1 to 10) all do.
 pub fn figures(image: &[u8], table: &mut [u64]) -> Result<Figures, Refusal> {
     // the pointers and lengths are those of an image, a table and an answer that live through the call and do not overlap
-    let [tight, published, exits] = told(|answer| unsafe {
+    figured(|answer| unsafe {
         slotfigures_figures(
             image.as_ptr(),
             image.len(),
@@ -161,11 +193,53 @@ pub fn figures(image: &[u8], table: &mut [u64]) -> Result<Figures, Refusal> {
             answer.as_mut_ptr(),
             answer.len(),
         )
-    })?;
-    Ok(Figures {
-        tight,
-        published,
-        exits,
+    })
+}
+
+/// Sets the durations of one plain block in an image, four bytes and no others; the edited image is accepted too. After a refusal every byte
+/// is as it was.
+///
+/// Nodes are numbered from 0 as they stand in the image: its third field is node 0, its last the entry. Refused: an image that is not
+/// accepted, by its own number (1 to 9); then a node that does not exist or is no plain block (19); then durations of which the highest is
+/// above 65,535, or the lowest above the highest or more than 63 below it (5, and the place is that of the block's field).
+pub fn edit(image: &mut [u8], node: u64, lowest: u64, highest: u64) -> Result<(), Refusal> {
+    // the pointers and lengths are those of an image and an answer that live through the call and do not overlap
+    told(|answer| unsafe {
+        slotfigures_edit(
+            image.as_mut_ptr(),
+            image.len(),
+            node,
+            lowest,
+            highest,
+            answer.as_mut_ptr(),
+            answer.len(),
+        )
+    })
+    .map(|_| ())
+}
+
+/// What [`figures`] would give, its table too, of a copy of the image that [`edit`] has edited; the image itself is left alone. Refused as
+/// by [`edit`], and last where the table has fewer places than the period (10); the table then keeps its contents.
+pub fn preview(
+    image: &[u8],
+    node: u64,
+    lowest: u64,
+    highest: u64,
+    table: &mut [u64],
+) -> Result<Figures, Refusal> {
+    // the pointers and lengths are those of an image, a table and an answer that live through the call and do not overlap
+    figured(|answer| unsafe {
+        slotfigures_preview(
+            image.as_ptr(),
+            image.len(),
+            node,
+            lowest,
+            highest,
+            table.as_mut_ptr(),
+            table.len(),
+            answer.as_mut_ptr(),
+            answer.len(),
+        )
     })
 }
 
