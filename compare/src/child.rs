@@ -1,5 +1,6 @@
 //! Runs the program under test with an input and takes what it writes.
 
+use crate::report::Program;
 use std::fs::File;
 use std::io::{Read, Seek, Write};
 use std::os::fd::OwnedFd;
@@ -44,11 +45,6 @@ impl Feed {
 pub struct Output {
     pub written: Vec<u8>,
     pub said: Vec<u8>,
-}
-
-pub struct Program {
-    pub path: String,
-    pub words: Vec<String>,
 }
 
 /// The programs under way, one place for each thread; `watch` ends those that take longer than the limit.

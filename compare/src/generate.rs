@@ -56,6 +56,12 @@ impl Random {
         self.0.wrapping_mul(0x2545_f491_4f6c_dd1d) >> 16
     }
 
+    /// any 64-bit number, for task tables and edits
+    #[allow(dead_code)]
+    pub fn any(&mut self) -> u64 {
+        self.below(1 << 32) << 32 | self.below(1 << 32)
+    }
+
     /// a number below `bound`
     pub fn below(&mut self, bound: u64) -> u64 {
         self.next() % bound
@@ -74,6 +80,10 @@ impl Random {
     pub fn one_of<'a, T>(&mut self, list: &'a [T]) -> &'a T {
         &list[self.below(list.len() as u64) as usize]
     }
+}
+
+pub fn hexadecimal(image: &[u8]) -> String {
+    image.iter().map(|byte| format!("{byte:02x}")).collect()
 }
 
 // The fields. "Every field is a one-byte tag, a two-byte length of its body, and the body."
@@ -124,7 +134,7 @@ pub fn blank_nodes(number: usize) -> Vec<u8> {
 }
 
 /// Steps of the calculation above which a random image is left out.
-const MOST_WORK: u64 = 3_000_000;
+pub const MOST_WORK: u64 = 3_000_000;
 
 /// The steps that a calculation offset by offset takes for an image, about; 0 for one that is refused.
 pub fn work(image: &[u8]) -> u64 {
@@ -161,7 +171,7 @@ pub struct Shape {
 
 /// Few enough choices that most such tasks can be enumerated.
 pub const SMALL: Shape = Shape { nodes: 9, starts: 4, children: 4, arms: 3, count: 3, range_once_in: 3, range: 3 };
-const MIDDLE: Shape = Shape { nodes: 16, starts: 12, children: 6, arms: 4, count: 6, range_once_in: 2, range: 12 };
+pub const MIDDLE: Shape = Shape { nodes: 16, starts: 12, children: 6, arms: 4, count: 6, range_once_in: 2, range: 12 };
 const LARGE: Shape = Shape { nodes: 40, starts: 256, children: 16, arms: 8, count: 60, range_once_in: 2, range: 63 };
 
 pub fn random_bus(random: &mut Random) -> (u64, u64, u64) {
@@ -276,7 +286,7 @@ fn random_node(random: &mut Random, shape: &Shape, own: u64, kind: u64, slot: u6
 }
 
 /// A random task that is accepted and calculated in time.
-fn valid_task(random: &mut Random, shape: &Shape) -> (Vec<u8>, Task) {
+pub fn valid_task(random: &mut Random, shape: &Shape) -> (Vec<u8>, Task) {
     loop {
         let image = random_task(random, shape);
         if let Ok(task) = judge(&image) {

@@ -5,7 +5,7 @@ pub const MOST_DEPTH: u64 = 24;
 pub const MOST_VISITS: u64 = 100_000;
 
 /// The bus and the task's core on it.
-#[derive(Clone, Debug, Default)]
+#[derive(Clone, PartialEq, Debug, Default)]
 pub struct Bus {
     pub cores: u64,
     pub slot: u64,
@@ -20,7 +20,7 @@ impl Bus {
 }
 
 /// "A node is one of five kinds, each with its own numbers."
-#[derive(Clone, Debug)]
+#[derive(Clone, PartialEq, Debug)]
 pub enum Node {
     Plain { lowest: u64, highest: u64 },
     Access { may: bool, lowest: u64, highest: u64 },
@@ -30,7 +30,7 @@ pub enum Node {
 }
 
 /// An accepted image. The last node is the entry.
-#[derive(Clone, Debug, Default)]
+#[derive(Clone, PartialEq, Debug, Default)]
 pub struct Task {
     pub bus: Bus,
     pub starts: Vec<u64>,

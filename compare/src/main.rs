@@ -12,15 +12,16 @@ mod generate;
 mod image;
 mod offsets;
 mod reference;
+mod report;
 // single runs are for the task tables
 #[allow(dead_code)]
 mod runs;
 
-use child::{Feed, Program, Watched};
-use generate::{Case, Expected};
+use child::{Feed, Watched};
+use generate::{hexadecimal, Case, Expected};
 use reference::Way;
+use report::{Failure, Options, Tests};
 use std::collections::BTreeMap;
-use std::process::exit;
 use std::sync::atomic::{AtomicBool, AtomicUsize, Ordering};
 use std::sync::Mutex;
 use std::time::{Duration, Instant};
@@ -28,18 +29,6 @@ use std::time::{Duration, Instant};
 /// Steps lent to the enumeration of one image's runs.
 const STEPS: u64 = 400_000;
 const LEAST_PASSED: usize = 20_000;
-/// Differences that are printed in full.
-const SHOWN: usize = 5;
-
-struct Options {
-    seed: u64,
-    images: usize,
-    threads: usize,
-    limit: u64,
-    seconds: u64,
-    stop_after: usize,
-    program: Program,
-}
 
 /// One test: an image, or a special way of giving an input.
 struct Test {
@@ -47,52 +36,16 @@ struct Test {
     feed: Feed,
 }
 
-struct Failure {
-    test: usize,
-    /// the program's answer is at fault, and not the reference's
-    by_program: bool,
-    why: String,
-    expected: String,
-    got: String,
-}
-
 /// What was met, over all tests.
 #[derive(Default)]
 struct Summary {
-    failures: Vec<Failure>,
-    done: usize,
-    /// by category: tests and failures
-    categories: BTreeMap<&'static str, (usize, usize)>,
+    tests: Tests,
     /// by refusal number
     refused: BTreeMap<u64, usize>,
     enumerated: usize,
     runs: u64,
     calculated: usize,
     unread: usize,
-}
-
-fn options() -> Result<Options, String> {
-    let threads = std::thread::available_parallelism().map_or(2, |number| number.get()).min(8);
-    let program = Program { path: "target/bin/figure".to_string(), words: Vec::new() };
-    let mut options = Options { seed: 1, images: 24_000, threads, limit: 30, seconds: 140, stop_after: usize::MAX, program };
-    let mut words = std::env::args().skip(1);
-    while let Some(word) = words.next() {
-        if !word.starts_with("--") {
-            options.program = Program { path: word, words: words.collect() };
-            break;
-        }
-        let number = words.next().and_then(|number| number.parse::<u64>().ok()).ok_or(format!("{word} needs a number"))?;
-        match word.as_str() {
-            "--seed" => options.seed = number,
-            "--images" => options.images = number as usize,
-            "--threads" => options.threads = number.max(1) as usize,
-            "--limit" => options.limit = number,
-            "--seconds" => options.seconds = number,
-            "--stop-after" => options.stop_after = number as usize,
-            _ => return Err(format!("unknown option {word}")),
-        }
-    }
-    Ok(options)
 }
 
 /// Ways of giving an input other than all at once through a pipe.
@@ -182,12 +135,9 @@ fn perform(number: usize, test: &Test, thread: usize, options: &Options, watched
     };
     let got = child::run(&options.program, &test.case.image, &test.feed, thread, watched);
 
-    let failure = |by_program: bool, why: &str, got: &str| Failure {
-        test: number,
-        by_program,
-        why: why.to_string(),
-        expected: answer.text.clone(),
-        got: got.to_string(),
+    let failure = |by_program, why, got: &str| {
+        let input = ("image", hexadecimal(&test.case.image));
+        Failure { by_program, why, input, expected: answer.text.clone(), got: got.to_string() }
     };
     let failed = if let Some(doubt) = &answer.doubt {
         Some(failure(false, "the reference contradicts itself", doubt))
@@ -208,11 +158,7 @@ fn perform(number: usize, test: &Test, thread: usize, options: &Options, watched
     };
 
     let mut summary = summary.lock().unwrap();
-    summary.done += 1;
-    let category = summary.categories.entry(test.case.category).or_default();
-    category.0 += 1;
-    category.1 += usize::from(failed.is_some());
-    summary.failures.extend(failed);
+    summary.tests.tell(number, test.case.category, failed);
     match answer.way {
         Way::Refused(number) => *summary.refused.entry(number).or_default() += 1,
         Way::Enumerated { runs } => {
@@ -224,36 +170,35 @@ fn perform(number: usize, test: &Test, thread: usize, options: &Options, watched
     }
 }
 
-fn hexadecimal(bytes: &[u8]) -> String {
-    bytes.iter().map(|byte| format!("{byte:02x}")).collect()
-}
-
 fn main() {
-    let options = options().unwrap_or_else(|error| {
-        println!("{error}\n0 passed, 1 failed");
-        exit(1)
-    });
-    if !std::path::Path::new(&options.program.path).is_file() {
-        println!("missing: {}\n0 passed, 1 failed", options.program.path);
-        exit(1);
-    }
+    let threads = std::thread::available_parallelism().map_or(2, |number| number.get()).min(8) as u64;
+    let numbers = [
+        ("--seed", 1),
+        ("--images", 24_000),
+        ("--threads", threads),
+        ("--limit", 30),
+        ("--seconds", 140),
+        ("--stop-after", u64::MAX),
+    ];
+    let options = Options::new(&numbers, "target/bin/figure");
+    let (seed, threads) = (options.number("--seed"), options.size("--threads").max(1));
     let begun = Instant::now();
     let mut tests = specials();
-    tests.extend(generate::all(options.seed, options.images).into_iter().map(|case| Test { case, feed: Feed::Whole }));
+    tests.extend(generate::all(seed, options.size("--images")).into_iter().map(|case| Test { case, feed: Feed::Whole }));
 
     let summary = Mutex::new(Summary::default());
-    let watched = Watched::new(options.threads, Duration::from_secs(options.limit));
+    let watched = Watched::new(threads, Duration::from_secs(options.number("--limit")));
     let next = AtomicUsize::new(0);
     let finished = AtomicBool::new(false);
     std::thread::scope(|scope| {
-        let workers: Vec<_> = (0..options.threads)
+        let workers: Vec<_> = (0..threads)
             .map(|thread| {
                 let (tests, next, options, watched, summary) = (&tests, &next, &options, &watched, &summary);
                 scope.spawn(move || loop {
                     let number = next.fetch_add(1, Ordering::Relaxed);
-                    let out_of_time = begun.elapsed().as_secs() >= options.seconds;
-                    let failures = summary.lock().map_or(0, |summary| summary.failures.len());
-                    if number >= tests.len() || out_of_time || failures >= options.stop_after {
+                    let out_of_time = begun.elapsed().as_secs() >= options.number("--seconds");
+                    let failures = summary.lock().map_or(0, |summary| summary.tests.failed());
+                    if number >= tests.len() || out_of_time || failures >= options.size("--stop-after") {
                         break;
                     }
                     perform(number, &tests[number], thread, options, watched, summary);
@@ -274,42 +219,13 @@ fn main() {
     });
 
     let mut summary = summary.into_inner().unwrap_or_else(|broken| broken.into_inner());
-    summary.failures.sort_by_key(|failure| failure.test);
-    for failure in summary.failures.iter().take(SHOWN) {
-        let case = &tests[failure.test].case;
-        println!("{}: {}", case.category, failure.why);
-        println!("  image    {}", hexadecimal(&case.image));
-        println!("  expected {:?}", failure.expected);
-        println!("  got      {:?}", failure.got);
-    }
-    if summary.failures.len() > SHOWN {
-        println!("and {} more", summary.failures.len() - SHOWN);
-    }
-    println!("seed {}, {} threads, {:.1} s", options.seed, options.threads, begun.elapsed().as_secs_f64());
-    for (category, (all, failed)) in &summary.categories {
-        println!("  {category:<22} {all:>6}{}", if *failed > 0 { format!("  {failed} failed") } else { String::new() });
-    }
+    summary.tests.show(&format!("seed {seed}, {threads} threads, {:.1} s", begun.elapsed().as_secs_f64()));
     println!("accepted: {} enumerated in {} runs, {} by calculation", summary.enumerated, summary.runs, summary.calculated);
     let refused: Vec<String> = summary.refused.iter().map(|(number, all)| format!("{number}: {all}")).collect();
     println!("refused by number: {}", refused.join(", "));
     println!("not read whole: {}", summary.unread);
-    let differences = summary.failures.iter().filter(|failure| failure.by_program).count();
-    println!("wrong answers of the program: {differences} in {} tests performed", summary.done);
-
-    let mut failed = summary.failures.len();
-    let mut passed = summary.done - failed;
-    // every answer of the paper that `figure` can give was met, and runs were enumerated: one test
-    let met = (1..=9).all(|number| summary.refused.get(&number).copied().unwrap_or(0) >= 10);
-    if met && summary.enumerated >= 500 && summary.calculated >= 100 && summary.unread >= 20 {
-        passed += 1;
-    } else {
-        println!("too few images of some kind");
-        failed += 1;
-    }
-    if summary.done < tests.len() {
-        println!("{} tests were not performed", tests.len() - summary.done);
-        failed += tests.len() - summary.done;
-    }
-    println!("{passed} passed, {failed} failed");
-    exit(i32::from(failed > 0 || passed < LEAST_PASSED));
+    // every answer of the paper that `figure` can give was met, and runs were enumerated
+    let each_refusal = (1..=9).all(|number| summary.refused.get(&number).copied().unwrap_or(0) >= 10);
+    let met = each_refusal && summary.enumerated >= 500 && summary.calculated >= 100 && summary.unread >= 20;
+    summary.tests.close(tests.len(), &[(met, "too few images of some kind")], LEAST_PASSED);
 }

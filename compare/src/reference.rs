@@ -21,6 +21,17 @@ pub struct Answer {
     pub doubt: Option<String>,
 }
 
+/// Both figures and the exit offsets, each with its longest time.
+pub struct Figures {
+    pub tight: u64,
+    pub published: u64,
+    pub exits: Vec<(u64, u64)>,
+    /// the runs, where they were enumerated
+    pub runs: Option<u64>,
+    /// as in an answer
+    pub doubt: Option<String>,
+}
+
 pub fn answer(input: &[u8], steps: u64) -> Answer {
     match judge(&input[..input.len().min(MOST_BYTES)]) {
         Err(refusal) => Answer {
@@ -28,7 +39,14 @@ pub fn answer(input: &[u8], steps: u64) -> Answer {
             way: Way::Refused(refusal.number),
             doubt: None,
         },
-        Ok(task) => figures(&task, steps),
+        Ok(task) => {
+            let figures = figures(&task, steps);
+            let mut text = format!("tight {}\npublished {}\nexits {}\n", figures.tight, figures.published, figures.exits.len());
+            for (offset, time) in figures.exits {
+                text += &format!("{offset} {time}\n");
+            }
+            Answer { text, way: figures.runs.map_or(Way::Calculated, |runs| Way::Enumerated { runs }), doubt: figures.doubt }
+        }
     }
 }
 
@@ -37,7 +55,8 @@ pub fn unread() -> Answer {
     Answer { text: String::new(), way: Way::Unread, doubt: None }
 }
 
-fn figures(task: &Task, steps: u64) -> Answer {
+/// The figures by calculation, and by enumeration too where so many steps are enough for it.
+pub fn figures(task: &Task, steps: u64) -> Figures {
     let times = offsets::tight(task);
     let (published, set) = offsets::published(task);
     let exits: Vec<(u64, u64)> =
@@ -52,19 +71,11 @@ fn figures(task: &Task, steps: u64) -> Answer {
     if published < tight {
         doubt = Some(format!("published {published} is below tight {tight}"));
     }
-    let way = match runs::enumerate(task, steps) {
-        None => Way::Calculated,
-        Some(all) => {
-            if !all.longest.iter().map(|(&offset, &time)| (offset, time)).eq(exits.iter().copied()) {
-                doubt = Some(format!("enumerated {:?}, calculated {:?}", all.longest, exits));
-            }
-            Way::Enumerated { runs: all.number }
+    let all = runs::enumerate(task, steps);
+    if let Some(all) = &all {
+        if !all.longest.iter().map(|(&offset, &time)| (offset, time)).eq(exits.iter().copied()) {
+            doubt = Some(format!("enumerated {:?}, calculated {:?}", all.longest, exits));
         }
-    };
-
-    let mut text = format!("tight {tight}\npublished {published}\nexits {}\n", exits.len());
-    for (offset, time) in exits {
-        text += &format!("{offset} {time}\n");
     }
-    Answer { text, way, doubt }
+    Figures { tight, published, exits, runs: all.map(|all| all.number), doubt }
 }

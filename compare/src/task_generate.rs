@@ -58,17 +58,12 @@ impl Tables {
 /// Numbers of a line that the program under test reads.
 const MOST_NUMBERS: usize = 1_024;
 
-/// Any 64-bit number.
-fn any(random: &mut Random) -> u64 {
-    random.below(1 << 32) << 32 | random.below(1 << 32)
-}
-
 /// A number that breaks a range somewhere, or just does not.
 fn odd(random: &mut Random) -> u64 {
     let near =
         [0, 1, 7, 8, 9, 10, 14, 15, 16, 17, 62, 63, 64, 255, 256, MOST_TIME - 1, MOST_TIME, MOST_TIME + 1, 1 << 32, u64::MAX];
     match random.below(4) {
-        0 => any(random),
+        0 => random.any(),
         1 => random.below(70),
         _ => *random.one_of(&near),
     }
@@ -155,9 +150,9 @@ fn damage(random: &mut Random, numbers: &mut Vec<u64>) {
             2 => numbers[at] = numbers[at].wrapping_add(1),
             3 => numbers[at] = numbers[at].wrapping_sub(1),
             // a number of an entry just out of its range, or far
-            4 => numbers[row] = if random.once_in(2) { CORES as u64 } else { any(random) },
-            5 if row + 1 < end => numbers[row + 1] = if random.once_in(2) { MOST_TIME + 1 } else { any(random) },
-            6 if row + 2 < end => numbers[row + 2] = if random.once_in(2) { MOST_WAITS + 1 } else { any(random) },
+            4 => numbers[row] = if random.once_in(2) { CORES as u64 } else { random.any() },
+            5 if row + 1 < end => numbers[row + 1] = if random.once_in(2) { MOST_TIME + 1 } else { random.any() },
+            6 if row + 2 < end => numbers[row + 2] = if random.once_in(2) { MOST_WAITS + 1 } else { random.any() },
             // a predecessor that is not earlier, or just is
             7..=9 if row + 3 < end => {
                 let count = numbers[row + 2].clamp(1, MOST_WAITS) as usize;
@@ -168,7 +163,7 @@ fn damage(random: &mut Random, numbers: &mut Vec<u64>) {
                     1 => own as u64 + 1,
                     2 => (own as u64).wrapping_sub(1),
                     3 => own as u64 + random.below(64),
-                    _ => any(random),
+                    _ => random.any(),
                 };
             }
             10 => {

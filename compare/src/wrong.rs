@@ -1,16 +1,19 @@
-//! Behaves like `figure`, or with `--tables` like tests/linked/tables.c; with `--fault NAME` it has that one fault of
-//! wrong/faults.txt. It shares no code with the reference.
+//! Behaves like `figure`, or with `--tables` like tests/linked/tables.c and with `--edits` like tests/linked/edits.c; with `--fault
+//! NAME` it has that one fault of wrong/faults.txt. It shares no code with the reference.
 //!
-//! wrong [--tables] [--fault NAME]
+//! wrong [--tables | --edits] [--fault NAME]
 
+mod wrong_edits;
 mod wrong_tables;
 
 use std::collections::{BTreeMap, BTreeSet};
-use std::io::{Read, Write};
+use std::io::{BufRead, BufWriter, Read, Write};
 use std::process::{abort, exit};
 
 const FAULTS: &str = include_str!("../wrong/faults.txt");
 
+/// Without a name it is none.
+#[derive(Default)]
 struct Fault(String);
 
 impl Fault {
@@ -53,24 +56,31 @@ type Refusal = (u64, usize);
 
 fn main() {
     let mut words: Vec<String> = std::env::args().skip(1).collect();
-    let tables = words.first().is_some_and(|word| word == "--tables");
-    words.drain(..usize::from(tables));
+    // what is tried: task tables, edits, or images
+    let kind = match words.first().map(String::as_str) {
+        Some("--tables") => "tasks-",
+        Some("--edits") => "edits-",
+        _ => "",
+    };
+    words.drain(..usize::from(!kind.is_empty()));
     // a name that the list has, of the kind that is asked for
     let known = |name: &str| {
         let listed = FAULTS.lines().any(|line| line.starts_with(&format!("{name}: ")));
-        listed && name.starts_with("tasks-") == tables
+        let of = ["tasks-", "edits-"].into_iter().find(|kind| name.starts_with(kind));
+        listed && of.unwrap_or("") == kind
     };
     let fault = match &words[..] {
-        [] => Fault(String::new()),
+        [] => Fault::default(),
         [option, name] if option == "--fault" && known(name) => Fault(name.clone()),
         _ => {
-            eprintln!("wrong [--tables] [--fault NAME]");
+            eprintln!("wrong [--tables | --edits] [--fault NAME]");
             exit(2)
         }
     };
-    if tables {
-        wrong_tables::run(&fault);
-        return;
+    match kind {
+        "tasks-" => return wrong_tables::run(&fault),
+        "edits-" => return wrong_edits::run(&fault),
+        _ => {}
     }
     let input = read_input(&fault);
     let text = match judge(&fault, &input) {
@@ -82,6 +92,51 @@ fn main() {
     let _ = std::io::stdout().flush();
     if fault.is("killed-after") {
         abort();
+    }
+}
+
+/// What is said to a line: a line or nothing; the program is killed, or ends because it cannot read it.
+enum Said {
+    Line(String),
+    Nothing,
+    Killed,
+    Wrong,
+}
+
+/// Answers each line of the input. At its end the last line feed is missing, there is a line too many, the status is bad.
+fn answer_lines([no_last_line_feed, line_too_many, bad_status]: [bool; 3], answer: &dyn Fn(&str) -> Said) {
+    let mut output = BufWriter::new(std::io::stdout().lock());
+    let mut first = true;
+    for line in std::io::stdin().lock().lines() {
+        match line.map_or(Said::Wrong, |line| answer(&line)) {
+            // a line feed goes before each line but the first, so that the last can be left out
+            Said::Line(answer) => {
+                if write!(output, "{}{answer}", if first { "" } else { "\n" }).is_err() {
+                    break;
+                }
+                first = false;
+            }
+            Said::Nothing => {}
+            Said::Killed => {
+                let _ = output.flush();
+                abort();
+            }
+            Said::Wrong => {
+                let _ = writeln!(output, "wrong: not read");
+                let _ = output.flush();
+                exit(1)
+            }
+        }
+    }
+    if !first && !no_last_line_feed {
+        let _ = writeln!(output);
+    }
+    if line_too_many {
+        let _ = writeln!(output);
+    }
+    let _ = output.flush();
+    if bad_status {
+        exit(1);
     }
 }
 

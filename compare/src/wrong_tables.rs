@@ -1,45 +1,20 @@
 //! Task tables for `wrong --tables`: a line for each, as tests/linked/tables.c writes them, by the formula of change request W12.
 //! It shares no code with the second reading either.
 
-use crate::Fault;
-use std::io::{BufRead, BufWriter, Write};
-use std::process::{abort, exit};
+use crate::{answer_lines, Fault, Said};
 
 /// Reads tables and writes answers until the input ends.
 pub fn run(fault: &Fault) {
-    let mut output = BufWriter::new(std::io::stdout().lock());
-    let mut first = true;
-    for line in std::io::stdin().lock().lines() {
-        let numbers =
-            line.ok().and_then(|line| line.split_whitespace().map(|number| number.parse().ok()).collect::<Option<Vec<u64>>>());
-        let Some(numbers) = numbers else {
-            let _ = writeln!(output, "wrong: no number");
-            exit(1)
-        };
-        if fault.is("tasks-empty-unanswered") && numbers.is_empty() {
-            continue;
+    let at_end = [fault.is("tasks-no-last-line-feed"), fault.is("tasks-line-too-many"), fault.is("tasks-status-at-end")];
+    answer_lines(at_end, &|line| {
+        let numbers: Option<Vec<u64>> = line.split_whitespace().map(|number| number.parse().ok()).collect();
+        let Some(numbers) = numbers else { return Said::Wrong };
+        match numbers.len() {
+            0 if fault.is("tasks-empty-unanswered") => Said::Nothing,
+            704 if fault.is("tasks-killed-at-64") => Said::Killed,
+            _ => Said::Line(answer(fault, &numbers).iter().map(u64::to_string).collect::<Vec<_>>().join(" ")),
         }
-        if fault.is("tasks-killed-at-64") && numbers.len() == 64 * 11 {
-            let _ = output.flush();
-            abort();
-        }
-        // a line feed goes before each line but the first, so that the last can be left out
-        let answer: Vec<String> = answer(fault, &numbers).iter().map(u64::to_string).collect();
-        if write!(output, "{}{}", if first { "" } else { "\n" }, answer.join(" ")).is_err() {
-            break;
-        }
-        first = false;
-    }
-    if !first && !fault.is("tasks-no-last-line-feed") {
-        let _ = writeln!(output);
-    }
-    if fault.is("tasks-line-too-many") {
-        let _ = writeln!(output);
-    }
-    let _ = output.flush();
-    if fault.is("tasks-status-at-end") {
-        exit(1);
-    }
+    });
 }
 
 /// The status, both places of the answer and the 64 finishes.

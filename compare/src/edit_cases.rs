@@ -1,0 +1,259 @@
+//! Edits written by hand, with what has to be answered: change request W10, sentence by sentence.
+
+use crate::cases::longest_image;
+use crate::edit_generate::{Edits, Expected};
+use crate::editing::{is_plain, refused_line, Edit};
+use crate::generate::{blank_nodes, branch, bus, bus_block, field, hexadecimal, looped, plain, sequence, starts, Random};
+use crate::image::judge;
+use Expected::{Begins, Line, Open};
+
+const LARGEST: u64 = u64::MAX;
+const BITS_16: u64 = 1 << 16;
+const BITS_32: u64 = 1 << 32;
+
+fn edit(image: &[u8], node: u64, (lowest, highest): (u64, u64), places: u64) -> Edit {
+    Edit { image: image.to_vec(), node, lowest, highest, places }
+}
+
+/// An image with nodes of every kind: blocks in a sequence, in a branch, in a loop, shared, and one that is not reached.
+fn every_kind() -> Vec<u8> {
+    let nodes = [
+        plain(1, 2),
+        bus_block(2, 2, 2),
+        plain(7, 7),
+        sequence(&[0, 1, 2]),
+        branch(&[0, 3]),
+        looped(1, 3, 4),
+        plain(4, 4),
+        sequence(&[5, 2]),
+    ];
+    [bus(2, 5, 0), starts(&[3, 5]), nodes.concat()].concat()
+}
+
+/// Edits that lead to the worked tasks of document 01, or whose figures follow at once.
+pub fn worked(edits: &mut Edits) {
+    let mut done =
+        |from: (Vec<u8>, &[u8]), before: &[Vec<u8>], node: usize, durations: (u16, u16), times: (u64, u64, &[(u64, u64)])| {
+            let opening = [from.0, starts(from.1)].concat();
+            let mut after = before.to_vec();
+            after[node] = plain(durations.0, durations.1);
+            let image = [opening.clone(), before.concat()].concat();
+            let (tight, published, exits) = times;
+            let mut line = format!("edit 0 0 0 {}{}; preview ", hexadecimal(&opening), hexadecimal(&after.concat()));
+            let short = format!("{line}1 10 {}", image.len());
+            line += &format!("0 {tight} {published} {}", exits.len());
+            exits.iter().for_each(|(offset, time)| line += &format!(" {offset}:{time}"));
+            let period = u64::from(opening[3]) * u64::from(opening[4]);
+            for places in [0, 1, period - 1, period, period + 1, 256, 300] {
+                let expected = if places < period { &short } else { &line };
+                let durations = (u64::from(durations.0), u64::from(durations.1));
+                edits.add("worked edits", edit(&image, node as u64, durations, places), Line(expected.clone()));
+            }
+        };
+    let small = || bus(2, 5, 0);
+    // "Branch of plain 3 and plain 7 from {9}: exits 2 after 3, 6 after 7."
+    let arms = |first, second| [plain(first, first), plain(second, second), branch(&[0, 1])];
+    done((small(), &[9]), &arms(1, 7), 0, (3, 3), (7, 7, &[(2, 3), (6, 7)]));
+    done((small(), &[9]), &arms(3, 9), 1, (7, 7), (7, 7, &[(2, 3), (6, 7)]));
+    // to the same durations
+    done((small(), &[9]), &arms(3, 7), 1, (7, 7), (7, 7, &[(2, 3), (6, 7)]));
+    // the other arm has the same bytes and keeps them
+    done((small(), &[9]), &arms(7, 7), 0, (3, 3), (7, 7, &[(2, 3), (6, 7)]));
+    done((small(), &[9]), &arms(3, 3), 1, (7, 7), (7, 7, &[(2, 3), (6, 7)]));
+    // "Plain 0 to 10 from {0}: exit 0 after 10, exits 1 to 9 after 1 to 9."
+    let exits: Vec<(u64, u64)> = (0..10).map(|offset| (offset, if offset == 0 { 10 } else { offset })).collect();
+    done((small(), &[0]), &[plain(5, 5)], 0, (0, 10), (10, 10, &exits));
+    done((small(), &[0]), &[plain(65_535, 65_535)], 0, (0, 10), (10, 10, &exits));
+    done((small(), &[0]), &[plain(0, 63)], 0, (5, 5), (5, 5, &[(5, 5)]));
+    // no cycles, and most
+    done((small(), &[4]), &[plain(5, 9)], 0, (0, 0), (0, 0, &[(4, 0)]));
+    done((small(), &[0]), &[plain(5, 9)], 0, (65_535, 65_535), (65_535, 65_535, &[(5, 65_535)]));
+    done((bus(16, 16, 0), &[255]), &[plain(5, 9)], 0, (1, 1), (1, 1, &[(0, 1)]));
+    let exits: Vec<(u64, u64)> = (0..64).map(|later| (192 + later, 65_472 + later)).collect();
+    done((bus(16, 16, 0), &[0]), &[plain(1, 1)], 0, (65_472, 65_535), (65_535, 65_535, &exits));
+    // "A2 twice from {3, 5}" with a block of no cycles between, from one of 1
+    let between = [bus_block(2, 2, 2), plain(1, 1), sequence(&[0, 1, 0])];
+    done((small(), &[3, 5]), &between, 1, (0, 0), (9, 14, &[(2, 9), (4, 9)]));
+    // a block in a loop, which counts each time; in one that may not execute it; in one that does not
+    done((small(), &[0]), &[plain(1, 1), looped(1, 3, 0)], 0, (3, 3), (9, 9, &[(3, 3), (6, 6), (9, 9)]));
+    done((small(), &[0]), &[plain(1, 1), looped(0, 1, 0)], 0, (3, 3), (3, 3, &[(0, 0), (3, 3)]));
+    done((small(), &[4]), &[plain(1, 1), looped(0, 0, 0)], 0, (3, 3), (0, 0, &[(4, 0)]));
+    // a block that is shared, and blocks that are not reached: before the entry only
+    done((small(), &[0]), &[plain(1, 1), sequence(&[0, 0, 0])], 0, (11, 11), (33, 33, &[(3, 33)]));
+    done((small(), &[0]), &[plain(1, 1), plain(2, 2)], 0, (9, 9), (2, 2, &[(2, 2)]));
+    done((small(), &[0]), &[plain(1, 1), plain(2, 2)], 1, (9, 9), (9, 9, &[(9, 9)]));
+    // times above 32 bits: 99,989 times
+    let long = [plain(1, 1), looped(10_000, 10_000, 0), looped(9_989, 9_989, 0), sequence(&[1, 1, 1, 1, 1, 1, 1, 1, 1, 2])];
+    done((small(), &[0]), &long, 0, (65_535, 65_535), (6_552_779_115, 6_552_779_115, &[(5, 6_552_779_115)]));
+}
+
+/// Durations on both sides of every rule, with all that a narrower number would lose.
+fn durations() -> Vec<(u64, u64)> {
+    let mut all = Vec::new();
+    for lowest in [0, 1, 193, 255, 256, 65_471, 65_472, 65_473, 65_535] {
+        all.extend([0, 1, 63, 64, 256].map(|difference| (lowest, lowest + difference)));
+    }
+    // lowest above highest, by little and by much
+    all.extend([(1, 0), (8, 7), (63, 0), (64, 0), (256, 0), (300, 45), (65_535, 0), (65_535, 65_534)]);
+    // both, or one, above 65,535: with the rest of 16 or 32 bits good
+    for above in [BITS_16, 2 * BITS_16, BITS_32, BITS_32 + BITS_16, 1 << 63] {
+        all.extend([(above, above), (above + 5, above + 7), (5, above + 7), (above + 5, 7), (0, above), (above, 0)]);
+    }
+    // differences that come round: highest - lowest is 16, 0 and 63 in 64 bits
+    all.extend([(LARGEST - 10, 5), (LARGEST, LARGEST), (LARGEST - 62, 0), (LARGEST - 63, LARGEST), (0, LARGEST), (LARGEST, 0)]);
+    all.extend([(65_535 - 63, LARGEST), (LARGEST, 65_535)]);
+    all
+}
+
+/// Numbers that may name a node: every one of the image, those behind, and what a narrower number would make of them.
+fn nodes(count: u64) -> Vec<u64> {
+    let mut all: Vec<u64> = (0..count + 2).collect();
+    for above in [256, BITS_16, BITS_32, 1 << 63] {
+        all.extend([above, above + 2, above + count - 1]);
+    }
+    all.extend([254, 255, LARGEST, LARGEST - 1]);
+    all
+}
+
+/// Every plain block with every durations and every kind of table; of other numbers of nodes every one, with some durations.
+pub fn grid(edits: &mut Edits) {
+    let all: Vec<u8> = (0..=255).collect();
+    let images = [
+        every_kind(),
+        [bus(16, 16, 5), starts(&all), plain(3, 3)].concat(),
+        [bus(2, 1, 1), starts(&[0, 1]), bus_block(1, 1, 1), plain(0, 1), branch(&[0, 1]), looped(0, 2, 2)].concat(),
+        [bus(3, 85, 0), starts(&[254]), bus_block(2, 1, 4), sequence(&[0, 0]), plain(9, 9)].concat(),
+        [bus(2, 5, 1), starts(&[0]), bus_block(2, 1, 4), sequence(&[0, 0])].concat(),
+        [bus(2, 128, 0), starts(&[0]), plain(1, 1), plain(1, 1), plain(1, 1), sequence(&[2, 0, 2])].concat(),
+    ];
+    for image in &images {
+        let task = judge(image).expect("an image that is accepted");
+        let period = task.bus.period();
+        for node in nodes(task.nodes.len() as u64) {
+            let with = if is_plain(&task, node) { durations() } else { vec![(0, 0), (3, 4), (4, 3), (0, 64), (0, LARGEST)] };
+            for durations in with {
+                for places in [0, period - 1, period, period + 1, 256, 300] {
+                    edits.add("nodes and durations", edit(image, node, durations, places), Open);
+                }
+            }
+        }
+    }
+}
+
+/// Images that are not accepted, by number.
+fn broken() -> Vec<(u64, Vec<u8>)> {
+    let good = every_kind();
+    let opening = || [bus(2, 5, 0), starts(&[3, 5])].concat();
+    let with = |more: Vec<u8>| [good.clone(), more].concat();
+    let tower = |levels: u16| -> Vec<u8> { (0..levels).flat_map(|below| sequence(&[below])).collect() };
+    let mut bad_first = good.clone();
+    bad_first[14..18].copy_from_slice(&[0, 2, 0, 1]);
+    let mut wide_first = good.clone();
+    wide_first[14..18].copy_from_slice(&[0, 0, 0, 64]);
+    vec![
+        (1, with(vec![3])),
+        (1, with(vec![3, 0])),
+        (1, good[..good.len() - 1].to_vec()),
+        (1, good[..17].to_vec()),
+        (2, with(field(9, &[]))),
+        (2, with(bus(2, 5, 0))),
+        (2, good[6..].to_vec()),
+        (2, [bus(2, 5, 0), plain(1, 1)].concat()),
+        (3, [opening(), blank_nodes(257)].concat()),
+        (4, with(field(3, &[0, 1, 0]))),
+        (4, [opening(), field(3, &[0, 1, 0, 1, 0])].concat()),
+        (5, with(plain(1, 0))),
+        (5, [bus(1, 5, 0), starts(&[3]), plain(1, 1)].concat()),
+        // the block that is named is itself the one at fault: no edit makes it good
+        (5, bad_first),
+        (5, wide_first),
+        (6, with(sequence(&[8]))),
+        (6, [opening(), plain(1, 1), looped(1, 2, 1)].concat()),
+        (7, Vec::new()),
+        (7, bus(2, 5, 0)),
+        (7, opening()),
+        (8, [opening(), plain(1, 1), tower(24)].concat()),
+        (9, [opening(), plain(1, 1), looped(1, 10_000, 0), looped(1, 10, 1)].concat()),
+    ]
+}
+
+/// Several refusals hold; the order decides: the image's own number, 19, 5, and 10 in the preview.
+pub fn order(edits: &mut Edits) {
+    let bad = [(1, 0), (0, 64), (65_535, 65_536), (LARGEST, LARGEST), (BITS_16 + 1, BITS_16 + 2), (LARGEST - 10, 5)];
+    let absent = [8, 9, 255, 256, BITS_16, BITS_32, LARGEST];
+    for (number, image) in broken() {
+        for node in [0, 1, 2, 7, 8, 256, LARGEST] {
+            for durations in [(1, 2), (1, 0), (0, 64), (5, 65_536), (LARGEST, LARGEST)] {
+                for places in [0, 9, 10, 300] {
+                    edits.add("order of refusals", edit(&image, node, durations, places), Begins(format!("edit 1 {number} ")));
+                }
+            }
+        }
+    }
+    let image = every_kind();
+    let length = image.len() as u64;
+    // where the fields of the plain blocks stand: the first at 11, the second after 7 and 6 bytes more, the third after 7, 9, 7 and 9
+    for (node, place) in [(0, 11), (2, 24), (6, 56)] {
+        for places in [0, 9, 10, 300] {
+            for durations in bad {
+                edits.add("order of refusals", edit(&image, node, durations, places), Line(refused_line(&image, 5, place)));
+            }
+        }
+    }
+    for node in [1, 3, 4, 5, 7].into_iter().chain(absent) {
+        for places in [0, 9, 10, 300] {
+            for durations in bad.into_iter().chain([(1, 2)]) {
+                edits.add("order of refusals", edit(&image, node, durations, places), Line(refused_line(&image, 19, length)));
+            }
+        }
+    }
+}
+
+/// Images of 256 nodes, and the longest that is accepted: 9,197 bytes.
+pub fn largest(edits: &mut Edits, random: &mut Random) {
+    let opening = [bus(3, 4, 1), starts(&[0, 11])].concat();
+    let blocks: Vec<u8> = (0..255).flat_map(|own| plain(own, own + own % 5)).collect();
+    let last = sequence(&[254, 253, 128, 127, 1, 0, 0, 254, 100]);
+    let mixed: Vec<u8> =
+        (0..255u16).flat_map(|own| if own % 3 == 1 { bus_block(1, 1, 3) } else { plain(own, own + 3) }).collect();
+    let images = [
+        [opening.clone(), blocks.clone(), last.clone()].concat(),
+        [opening.clone(), blocks, plain(255, 256)].concat(),
+        [opening.clone(), mixed, last].concat(),
+        [opening, blank_nodes(256)].concat(),
+    ];
+    for (which, image) in images.iter().enumerate() {
+        let named: Vec<u64> = if which == 3 { vec![0, 1, 127, 128, 253, 254, 255, 256, 257, 511] } else { (0..260).collect() };
+        for node in named {
+            let lowest = random.below(300);
+            let places = *random.one_of(&[11, 12, 256, 300]);
+            edits.add("256 nodes", edit(image, node, (lowest, lowest + random.below(9)), places), Open);
+        }
+        for node in [0, 1, 127, 128, 129, 254, 255] {
+            for (durations, places) in [((0, 0), 12), ((7, 9), 12), ((7, 70), 256), ((7, 71), 12), ((9, 7), 0), ((300, 301), 11)]
+            {
+                edits.add("256 nodes", edit(image, node, durations, places), Open);
+            }
+        }
+        for node in [256 + 255, BITS_16 + 255, BITS_32 + 254, LARGEST] {
+            edits.add("256 nodes", edit(image, node, (2, 3), 12), Line(refused_line(image, 19, image.len() as u64)));
+        }
+        // 7 bytes each before it, but in the third image 6 where the number is 1, 4, 7 ..
+        for node in [0, 252] {
+            let place = 11 + 7 * node - if which == 2 { node / 3 } else { 0 };
+            edits.add("256 nodes", edit(image, node, (3, 2), 0), Line(refused_line(image, 5, place)));
+        }
+    }
+    let longest = longest_image(&|_| 254);
+    let cut = longest[..longest.len() - 1].to_vec();
+    let more = [longest.clone(), plain(1, 1)].concat();
+    for node in [0, 1, 254, 255, 256, LARGEST] {
+        for durations in [(0, 0), (1, 3), (0, 63), (65_535, 65_535), (0, 64)] {
+            for places in [255, 256] {
+                edits.add("longest image", edit(&longest, node, durations, places), Open);
+            }
+        }
+        edits.add("longest image", edit(&cut, node, (1, 2), 256), Begins("edit 1 1 9162 ".to_string()));
+        edits.add("longest image", edit(&more, node, (1, 2), 256), Begins("edit 1 3 9197 ".to_string()));
+    }
+}
