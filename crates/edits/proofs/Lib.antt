@@ -6,3 +6,4 @@ pub mod Standing
 pub mod Finds
 pub mod Promises
 pub mod Laws
+pub mod Worked

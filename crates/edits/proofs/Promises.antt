@@ -22,7 +22,7 @@ use Rattle.edits.specs.declared.Found.{Found}
 use Rattle.edits.specs.declared.Found.the-variants.{At, Refused as NotFound}
 use Rattle.edits.specs.declared.Edited.the-variants.{Done, Refused as NotDone}
 use Rattle.edits.specs.Edits.{placeOf, withDurations, imageWith, found}
-use Rattle.edits.specs.Promise.{Editable, PreviewCondition, no-edit, short-table, Editing, Leaves, EditDone, Previewing, Quoted, Foreseen}
+use Rattle.edits.specs.Promise.{Editable, PreviewCondition, no-edit, short-table, Editing, Leaves, EditDone, Previewing, Foreseen, Foresees}
 use Rattle.edits.specs.Steps.{Finding}
 use Rattle.edits.proofs.Standing.{leaves}
 use Rattle.edits.proofs.Finds.{edit-because, edit-whenever, found-when, when-found}
@@ -84,7 +84,7 @@ module _ (s : List ℕ) (node lo hi : ℕ) (f : Found) (h : Finding s node lo hi
         whenever = when-not;
       }
 
-      pub refused-foreseen : Foreseen s node lo hi before (NotGiven r place) before
+      pub refused-foreseen : Foresees s node lo hi before (NotGiven r place) before
       refused-foreseen d = absurd (impossible d)
 
   -- ---- the edit is possible
@@ -153,11 +153,11 @@ module _ (s : List ℕ) (node lo hi : ℕ) (f : Found) (h : Finding s node lo hi
 
       -- demands 3 and 2 of the copy are those of the edited image
       module _ (d3 : Demand3 (withDurations s (place + 3) lo hi) r after) (d2 : Demand2 (withDurations s (place + 3) lo hi) r) where
-        pub given-foreseen : Foreseen s node lo hi before r after
+        pub given-foreseen : Foresees s node lo hi before r after
         given-foreseen d l =
             by-answer r refl (rw (le-ltb (length before) (periodOf (d .task)) (omega (arith, l))) at (answered d))
           where
-            by-answer : (x : Answer) → r ≡ x → resultOf x ≡ figuresOf (taskOf (imageWith s node lo hi) (d .task)) → Quoted (imageWith s node lo hi) (d .task) r after
+            by-answer : (x : Answer) → r ≡ x → resultOf x ≡ figuresOf (taskOf (imageWith s node lo hi) (d .task)) → Foreseen (imageWith s node lo hi) (d .task) r after
             by-answer (Given t) q w =
                 let a = leaves s node lo hi d .accepted in
                 record { totals = t; given = q; demand3 = (rw there at d3) (d .task) t a q; demand2 = (rw there at d2) (d .task) t a q }

@@ -94,13 +94,13 @@ pub record Previewing (s : List ℕ) (node lowest highest : ℕ) (before : List 
   pub whenever : (x : Refusal) (place : ℕ) → PreviewCondition s node lowest highest before x place → r ≡ NotGiven x place
 
 -- figures are given, and demands 3 and 2 hold of them and of the task k that the image s says
-pub record Quoted (s : List ℕ) (k : Task) (r : Answer) (after : List ℕ) : Type 0 where
+pub record Foreseen (s : List ℕ) (k : Task) (r : Answer) (after : List ℕ) : Type 0 where
   pub totals : Totals
   pub given : r ≡ Given totals
   pub demand3 : WholeRuns (taskOf s k) (totals .tight) (totals .published) (totals .exits) after
   pub demand2 : ByAlgorithms s k totals
 
 -- of an edit that is possible, with a place for each offset: figures of the edited image
-abbrev pub Foreseen : List ℕ → ℕ → ℕ → ℕ → List ℕ → Answer → List ℕ → Type 0
-Foreseen s node lowest highest before r after = (e : Editable s node lowest highest) → periodOf (e .task) ≤ length before
-    → Quoted (imageWith s node lowest highest) (e .task) r after
+abbrev pub Foresees : List ℕ → ℕ → ℕ → ℕ → List ℕ → Answer → List ℕ → Type 0
+Foresees s node lowest highest before r after = (e : Editable s node lowest highest) → periodOf (e .task) ≤ length before
+    → Foreseen (imageWith s node lowest highest) (e .task) r after

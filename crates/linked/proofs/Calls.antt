@@ -22,7 +22,7 @@ use Rattle.figures.specs.Promise.{Equal, Demand3}
 use Rattle.edits.specs.declared.Edited.{Edited}
 use Rattle.edits.specs.declared.Edited.the-variants.{Done, Refused as NotDone}
 use Rattle.edits.specs.Edits.{Change, done, changeOf, change, imageWith, imageAfter, previewOf, previewTable}
-use Rattle.edits.specs.Promise.{Editable, Editing, Leaves, Previewing, Quoted, Foreseen}
+use Rattle.edits.specs.Promise.{Editable, Editing, Leaves, Previewing, Foreseen, Foresees}
 use Rattle.edits.proofs.Standing.{leaves}
 use Rattle.edits.proofs.Laws.{edit-is, change-is}
 use Rattle.graph.specs.declared.Verdict.{Verdict as TableVerdict}
@@ -149,7 +149,7 @@ pub no-preview : (s : List ℕ) (node lo hi : ℕ) (before lent : List ℕ) (sta
 no-preview s node lo hi before lent status table found short d room long = absurd (omega arith)
 
 pub told-preview : (s : List ℕ) (node lo hi : ℕ) (before lent : List ℕ) (a : Answer) (status : ℕ) (table found : List ℕ)
-    → Foreseen s node lo hi before a table → told (resultOf a) lent ≡ (status, found) → WholePreview s node lo hi before lent status table found
+    → Foresees s node lo hi before a table → told (resultOf a) lent ≡ (status, found) → WholePreview s node lo hi before lent status table found
 told-preview s node lo hi before lent a status table found f e d room long =
     let q = f d (omega (arith, room)) in
     let t : told (resultOf (Given (q .totals))) lent ≡ (status, found) = rw (q .given) at e in

@@ -1,0 +1,70 @@
+-- Worked edits of "Branch of plain 3 and plain 7 from {9}" (document 01), by computation from the definitions.
+use mathlib.Core.Path.{_≡_, refl}
+use mathlib.Core.List.{List, [], _∷_, _++_}
+use lib.ListN.{replicate}
+use Prim.Native.Nat.{ℕ}
+use Rattle.runs.specs.Slots.{equal, equation7}
+use Rattle.runs.specs.Nodes.{trees, treeBy, treeTo, tree, depth, visits}
+use Rattle.runs.specs.Carried.{carried}
+use Rattle.runs.specs.Figures.{noTime, startTimes, startSet, longer, later, longestOf, cost, entryOf, held, sum}
+use Rattle.image.specs.Bytes.{wordAt, words, bytes}
+use Rattle.image.specs.Fields.{tagOk, lengthOk, busOk, startsOk, plainOk, blockOk, loopOk, valueOk, below, childrenOk, fieldOf}
+use Rattle.image.specs.Nodes.{fieldAt, nodeFrom, meant, nodeAt}
+use Rattle.image.specs.Judged.{scanFrom, scan, wholeOf, judged}
+use Rattle.figures.specs.Answers.{given, refused}
+use Rattle.edits.specs.Edits.{Change, done, withDurations, found, change, imageAfter, previewOf, previewTable}
+use Rattle.edits.specs.Promise.{Editable}
+use Rattle.edits.proofs.Finds.{when-found}
+
+-- the arms stand at 10 and 17, the branch at 24; the image has 31 bytes
+abbrev arms : ℕ → ℕ → List ℕ
+arms first second = 1 ∷ 0 ∷ 3 ∷ 2 ∷ 5 ∷ 0 ∷ 2 ∷ 0 ∷ 1 ∷ 9 ∷ 3 ∷ 0 ∷ 4 ∷ 0 ∷ first ∷ 0 ∷ first ∷ 3 ∷ 0 ∷ 4 ∷ 0 ∷ second ∷ 0 ∷ second ∷ 6 ∷ 0 ∷ 4 ∷ 0 ∷ 0 ∷ 0 ∷ 1 ∷ []
+
+record Worked : Type 0 where
+  is-done : change (arms 3 7) 1 8 8 ≡ done
+  first-arm : imageAfter (arms 3 7) 0 8 8 ≡ arms 8 7
+  second-arm : imageAfter (arms 3 7) 1 8 8 ≡ arms 3 8
+  unaccepted : change (5 ∷ arms 3 7) 9 8 7 ≡ Change.refused 2 0
+  no-node : change (arms 3 7) 3 8 8 ≡ Change.refused 19 31
+  branch : change (arms 3 7) 2 8 8 ≡ Change.refused 19 31
+  block-first : change (arms 3 7) 2 8 7 ≡ Change.refused 19 31
+  reversed : change (arms 3 7) 1 8 7 ≡ Change.refused 5 17
+  near : change (arms 3 7) 1 0 63 ≡ done
+  apart : change (arms 3 7) 1 0 64 ≡ Change.refused 5 17
+  most : change (arms 3 7) 0 65535 65535 ≡ done
+  above : change (arms 3 7) 0 65536 65536 ≡ Change.refused 5 10
+  untouched : imageAfter (arms 3 7) 1 8 7 ≡ arms 3 7
+  preview : previewOf (arms 3 7) 1 8 8 (replicate 10 0) ≡ given 8 8 2
+  table : previewTable (arms 3 7) 1 8 8 (replicate 11 0)
+      ≡ noTime ∷ noTime ∷ 3 ∷ noTime ∷ noTime ∷ noTime ∷ noTime ∷ 8 ∷ noTime ∷ noTime ∷ 0 ∷ []
+  short-table : previewOf (arms 3 7) 1 8 8 (replicate 9 0) ≡ refused 10 31
+  value-first : previewOf (arms 3 7) 1 8 7 (replicate 9 0) ≡ refused 5 17
+  kept : previewTable (arms 3 7) 1 8 7 (replicate 9 0) ≡ replicate 9 0
+
+worked : Worked
+unfolding wordAt words bytes tagOk lengthOk busOk startsOk plainOk blockOk loopOk valueOk below childrenOk fieldOf fieldAt nodeFrom meant nodeAt trees treeBy treeTo tree depth visits scanFrom scan wholeOf judged equal equation7 carried startTimes startSet longer later longestOf cost entryOf held sum withDurations found
+worked = record {
+  is-done = refl;
+  first-arm = refl;
+  second-arm = refl;
+  unaccepted = refl;
+  no-node = refl;
+  branch = refl;
+  block-first = refl;
+  reversed = refl;
+  near = refl;
+  apart = refl;
+  most = refl;
+  above = refl;
+  untouched = refl;
+  preview = refl;
+  table = refl;
+  short-table = refl;
+  value-first = refl;
+  kept = refl;
+}
+
+-- so there are possible edits
+possible : Editable (arms 3 7) 1 8 8
+unfolding wordAt words tagOk lengthOk busOk startsOk plainOk blockOk loopOk valueOk below childrenOk fieldOf fieldAt nodeFrom meant nodeAt trees treeBy treeTo tree depth visits scanFrom scan wholeOf judged found
+possible = when-found (arms 3 7) 1 8 8 17 refl
