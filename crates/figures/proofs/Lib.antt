@@ -1,4 +1,5 @@
 pub mod OneMore
+pub mod Filling
 pub mod Whole
 pub mod Entries
 pub mod Starting

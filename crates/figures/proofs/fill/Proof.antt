@@ -1,21 +1,13 @@
 -- Before each turn the table has the first o places of t and then its own at entry; a turn takes over place o.
 use borrow.Author.Needs.{needs}
-use mathlib.Core.Path.{_≡_, sym, _∙_}
-use mathlib.Core.List.{List, _++_}
-use lib.ListN.{length, getD, set, take, drop, length-set}
-use lib.Seq.{drop-cons, take-suc, set-at, append-snoc, length-take-le}
-use native.Mathlib.Numerals.{add-one}
+use mathlib.Core.Path.{_≡_}
+use mathlib.Core.List.{_++_}
+use lib.ListN.{length, take, drop, length-set}
 use native.Mathlib.Omega.{arith}
-use Prim.Native.Nat.{ℕ, suc, _+_, _-_, _≤_, _<_}
+use Prim.Native.Nat.{_-_, _≤_}
+use Rattle.figures.proofs.Filling.{taken-more}
 use Rattle.figures.proofs.fill.Statement.{statement}
 use Rattle.figures.proofs.fill.Tie as tie
-
--- one more place is taken over
-more : (d s : List ℕ) (o : ℕ) → o < length s → o < length d → set (take o s ++ drop o d) o (getD s o 0) ≡ take (o + 1) s ++ drop (o + 1) d
-more d s o h g =
-    rw (drop-cons d o 0 g)
-    (set-at (take o s) (getD d o 0) (drop (suc o) d) (getD s o 0) o (length-take-le o s (omega arith))
-    ∙ sym (rw (add-one o, take-suc s o 0 h) (append-snoc (take o s) (getD s o 0) (drop (suc o) d))))
 
 abbrev Inv-loop : tie.InvT-loop
 Inv-loop table₀ t n o₀ table o = (o ≤ n) × (length table ≡ length table₀) × (table ≡ take o t ++ drop o table₀)
@@ -48,7 +40,7 @@ loop-again : tie.Need-loop-again Inv-loop μ-loop
 loop-again c =
     let l = c .before .before .loop in
     let a = c .before .before .before .args in
-    (omega arith, simp length-set (l .inv .1), rw (l .inv .2) (more (a .table .now) (a .t .now) (l .o) (omega arith) (omega arith)))
+    (omega arith, simp length-set (l .inv .1), rw (l .inv .2) (taken-more (a .table .now) (a .t .now) (l .o) (omega arith) (omega arith)))
 
 same-length : tie.Need-same-length Inv-loop μ-loop
 same-length c = search needs
