@@ -7,13 +7,10 @@ use lib.Dec.{ltb}
 use borrow.Author.Tests.{lt-ltb, le-ltb, ltb-true}
 use native.Mathlib.Omega.{arith}
 use Prim.Native.Nat.{ℕ, _+_}
-use Rattle.image.specs.Judged.{numberOf, judged}
+use Rattle.image.specs.Judged.{numberOf}
 use Rattle.image.specs.Nodes.{taskOf}
 use Rattle.image.specs.declared.Refusal.{Refusal}
 use Rattle.image.specs.declared.Refusal.the-variants.{Cut, Tag, Full, Length, Value, Forward, Unfinished, Deep, Long, Table, Block}
-use Rattle.image.specs.declared.Task.{Task}
-use Rattle.image.specs.declared.Verdict.the-variants.{Accepted}
-use Rattle.image.proofs.Reasons.{accepted-when}
 use Rattle.figures.specs.declared.Answer.{Answer}
 use Rattle.figures.specs.declared.Answer.the-variants.{Given, Refused as NotGiven}
 use Rattle.figures.specs.Answers.{refused, resultOf, periodOf, figuresOf}
@@ -21,7 +18,7 @@ use Rattle.figures.specs.Promise.{Equal, Demand3, Demand2}
 use Rattle.edits.specs.declared.Found.{Found}
 use Rattle.edits.specs.declared.Found.the-variants.{At, Refused as NotFound}
 use Rattle.edits.specs.declared.Edited.the-variants.{Done, Refused as NotDone}
-use Rattle.edits.specs.Edits.{placeOf, withDurations, imageWith, found}
+use Rattle.edits.specs.Edits.{withDurations, imageWith, found}
 use Rattle.edits.specs.Promise.{Editable, PreviewCondition, no-edit, short-table, Editing, Leaves, EditDone, Previewing, Foreseen, Foresees}
 use Rattle.edits.specs.Steps.{Finding}
 use Rattle.edits.proofs.Standing.{leaves}

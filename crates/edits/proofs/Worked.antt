@@ -1,6 +1,6 @@
 -- Worked edits of "Branch of plain 3 and plain 7 from {9}" (document 01), by computation from the definitions.
 use mathlib.Core.Path.{_≡_, refl}
-use mathlib.Core.List.{List, [], _∷_, _++_}
+use mathlib.Core.List.{List, [], _∷_}
 use lib.ListN.{replicate}
 use Prim.Native.Nat.{ℕ}
 use Rattle.runs.specs.Slots.{equal, equation7}

@@ -1,6 +1,6 @@
 -- "a valid image has at most 9,197, since node 0 must be a block" (document 01): 6 bytes for the bus, 259 for the starts, 7 for node 0
 -- and 35 for each of 255 more nodes.
-use mathlib.Core.Path.{_≡_, sym, _∙_, ap}
+use mathlib.Core.Path.{_≡_, _∙_}
 use mathlib.Core.Bool.{true}
 use mathlib.Core.List.{List}
 use lib.ListN.{length}
@@ -8,7 +8,7 @@ use lib.Dec.{eqb}
 use borrow.Author.Tests.{eqb-true}
 use native.Mathlib.Nat.{not-suc-le-zero}
 use native.Mathlib.Omega.{arith}
-use Prim.Native.Nat.{ℕ, zero, suc, _+_, _*_, _/_, _%_, _≤_, _<_}
+use Prim.Native.Nat.{ℕ, zero, suc, _+_, _*_, _/_, _%_, _≤_}
 use Rattle.image.specs.Bytes.{wordAt}
 use Rattle.image.specs.Fields.{within, lengthOk, childrenOk}
 use Rattle.image.specs.Nodes.{fieldAt}

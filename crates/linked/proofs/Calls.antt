@@ -8,7 +8,7 @@ use lib.Seq.{take-all}
 use native.Mathlib.Omega.{arith}
 use Prim.Native.Nat.{ℕ, _*_, _≤_, _<_}
 use Rattle.runs.specs.Slots.{equal}
-use Rattle.image.specs.Judged.{Outcome, judged, outcomeOf, outcome, numberOf}
+use Rattle.image.specs.Judged.{Outcome, outcomeOf, outcome, numberOf}
 use Rattle.image.specs.Promise.{Judging}
 use Rattle.image.specs.declared.Refusal.{Refusal}
 use Rattle.image.specs.declared.Task.{Task}
@@ -17,12 +17,11 @@ use Rattle.image.specs.declared.Verdict.the-variants.{Accepted, Refused}
 use Rattle.figures.specs.declared.Totals.{Totals}
 use Rattle.figures.specs.declared.Answer.{Answer}
 use Rattle.figures.specs.declared.Answer.the-variants.{Given, Refused as NotGiven}
-use Rattle.figures.specs.Answers.{Result, resultOf, answer, tableAfter}
-use Rattle.figures.specs.Promise.{Equal, Demand3}
+use Rattle.figures.specs.Answers.{Result, resultOf, answer}
+use Rattle.figures.specs.Promise.{Demand3}
 use Rattle.edits.specs.declared.Edited.{Edited}
-use Rattle.edits.specs.declared.Edited.the-variants.{Done, Refused as NotDone}
-use Rattle.edits.specs.Edits.{Change, done, changeOf, change, imageWith, imageAfter, previewOf, previewTable}
-use Rattle.edits.specs.Promise.{Editable, Editing, Leaves, Previewing, Foreseen, Foresees}
+use Rattle.edits.specs.Edits.{changeOf}
+use Rattle.edits.specs.Promise.{Editing, Leaves, Foresees}
 use Rattle.edits.proofs.Standing.{leaves}
 use Rattle.edits.proofs.Laws.{edit-is, change-is}
 use Rattle.graph.specs.declared.Verdict.{Verdict as TableVerdict}
@@ -32,7 +31,7 @@ use Rattle.graph.specs.Table.{Result as FinishesResult, resultBy as finishesBy,
 use Rattle.graph.specs.Promise.{Equal as FinishesEqual}
 use Rattle.graph.proofs.Tables.{answer-given, finishes-length}
 use Rattle.graph.proofs.Promises.{finishing}
-use Rattle.linked.specs.Linked.{doneInto, refusedInto, judgedInto, judgeCall, told, beside, toldCall, figuresCall, WholeFigures, changedInto, editCall, WholeEdit, previewCall, WholePreview, finishesInto, finishesCall, WholeFinishes}
+use Rattle.linked.specs.Linked.{doneInto, refusedInto, judgedInto, judgeCall, told, beside, toldCall, WholeFigures, changedInto, editCall, WholeEdit, WholePreview, finishesInto, finishesCall, WholeFinishes}
 
 -- ---- the first places of a slice
 
