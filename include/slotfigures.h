@@ -80,8 +80,8 @@ uint64_t slotfigures_figures(const uint8_t *image, size_t image_length, uint64_t
  *   image    the task image's bytes, which are written: the answer may not overlap them. DONE: the durations are set, and the edited
  *            image is accepted too. Otherwise every byte is as it was.
  *   node     the block's number. Nodes are numbered from 0 as they stand in the image: its third field is node 0, its last the entry.
- *   lowest, highest   the durations, in cycles: highest at most 65,535, lowest at most highest, and at most 63 less. All 64 bits of each
- *            number count.
+ *   lowest, highest   the durations, in cycles: highest at most 65,535, lowest at most highest, and at most 63 less
+ *            (all 64 bits of these three numbers count)
  *   answer   at least 2 places. DONE: 0 and 0.
  *            REFUSED: the number, 1 to 9 or 19, and the place. Later places keep their contents.
  */

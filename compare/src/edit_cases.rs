@@ -164,7 +164,7 @@ fn broken() -> Vec<(u64, Vec<u8>)> {
         (4, [opening(), field(3, &[0, 1, 0, 1, 0])].concat()),
         (5, with(plain(1, 0))),
         (5, [bus(1, 5, 0), starts(&[3]), plain(1, 1)].concat()),
-        // the block that is named is itself the one at fault: no edit makes it good
+        // the block that is named is itself the one at fault: refused first, though the edit would mend it
         (5, bad_first),
         (5, wide_first),
         (6, with(sequence(&[8]))),

@@ -152,7 +152,7 @@ fn told(call: impl FnOnce(&mut [u64]) -> u64) -> Result<[u64; 3], Refusal> {
     }
 }
 
-/// The period of an accepted image, which is the number of places that [`figures`] needs; or why it is refused (numbers 1 to 9).
+/// The period of an accepted image, which is the number of places that [`figures`] and [`preview`] need; or why it is refused (numbers 1 to 9).
 pub fn period(image: &[u8]) -> Result<usize, Refusal> {
     // the pointers and lengths are those of an image and an answer that live through the call and do not overlap
     let [_, period, _] = told(|answer| unsafe {
@@ -219,7 +219,7 @@ pub fn edit(image: &mut [u8], node: u64, lowest: u64, highest: u64) -> Result<()
 }
 
 /// What [`figures`] would give, its table too, of a copy of the image that [`edit`] has edited; the image itself is left alone. Refused as
-/// by [`edit`], and last where the table has fewer places than the period (10); the table then keeps its contents.
+/// by [`edit`], and last where the table has fewer places than the period (10). After a refusal the table keeps its contents.
 pub fn preview(
     image: &[u8],
     node: u64,

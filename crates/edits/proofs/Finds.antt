@@ -15,13 +15,14 @@ use Rattle.image.specs.declared.Refusal.the-variants.{Value, Block}
 use Rattle.image.specs.declared.Task.{Task}
 use Rattle.image.specs.declared.Verdict.{Verdict}
 use Rattle.image.specs.declared.Verdict.the-variants.{Accepted, Refused}
+use Rattle.image.proofs.Kept.{durations-kept, kept-durations}
 use Rattle.image.proofs.Longest.{longest}
 use Rattle.image.proofs.Reasons.{refused-when, when-refused, when-accepted, accepted-when}
 use Rattle.edits.specs.declared.Found.the-variants.{At, Refused as NotFound}
 use Rattle.edits.specs.Edits.{placeOf, isPlain, foundFor, found}
 use Rattle.edits.specs.Promise.{EditCondition, unaccepted, no-block, out-of-range, Editable}
 use Rattle.edits.specs.Steps.{Finding}
-use Rattle.edits.proofs.Plain.{in-range, range-in, node-was, is-plain, plain-is}
+use Rattle.edits.proofs.Plain.{node-was, is-plain, plain-is}
 use Rattle.edits.proofs.Standing.{inside}
 
 -- what `find` knows where it has read the tag of the node's field
@@ -69,7 +70,7 @@ module _ (s : List ℕ) (node lo hi : ℕ) where
       pub at-found : plainOk lo hi ≡ true → Finding s node lo hi (At at)
       at-found p =
           let a = when-accepted s k (t .judged-so) in
-          let r = in-range lo hi p in
+          let r = durations-kept lo hi p in
           let d : Editable s node lo hi = record { task = k; accepting = a; block = record { exists = t .exists; plain = (_, _, node-was s node plain) }; durations = r } in
           record {
             is = sym (by-range true p);
@@ -95,7 +96,7 @@ module _ (s : List ℕ) (node lo hi : ℕ) where
       let f : NotFound Value (placeOf s node) ≡ NotFound r place = rw (t, u) at q in
       let x : Value ≡ r = cc in
       let p : placeOf s node ≡ place = cc in
-      rw (← x, ← p) (out-of-range k a (plain-is s node k t) (λ d. never (sym (range-in lo hi d) ∙ u)))))
+      rw (← x, ← p) (out-of-range k a (plain-is s node k t) (λ d. never (sym (kept-durations lo hi d) ∙ u)))))
       (λ t.
       let f : NotFound Block (length s) ≡ NotFound r place = rw t at q in
       let x : Block ≡ r = cc in
@@ -117,12 +118,12 @@ module _ (s : List ℕ) (node lo hi : ℕ) where
       (either (isPlain s k node) (λ t. absurd (n (plain-is s node k t))) (λ t. rw t))
   edit-whenever Value _ (out-of-range k a p n) =
       rw (accepted-when s k a, is-plain s node k p)
-      (either (plainOk lo hi) (λ t. absurd (n (in-range lo hi t))) (λ t. rw t))
+      (either (plainOk lo hi) (λ t. absurd (n (durations-kept lo hi t))) (λ t. rw t))
 
   -- the edit is done if and only if it is possible
   pub found-when : Editable s node lo hi → found s node lo hi ≡ At (placeOf s node)
   unfolding found
-  found-when d = rw (accepted-when s (d .task) (d .accepting), is-plain s node (d .task) (d .block), range-in lo hi (d .durations))
+  found-when d = rw (accepted-when s (d .task) (d .accepting), is-plain s node (d .task) (d .block), kept-durations lo hi (d .durations))
 
   pub when-found : (place : ℕ) → found s node lo hi ≡ At place → Editable s node lo hi
   unfolding found
@@ -133,6 +134,6 @@ module _ (s : List ℕ) (node lo hi : ℕ) where
       by-verdict (Accepted k) e q =
           either (isPlain s k node)
           (λ t. either (plainOk lo hi)
-          (λ u. record { task = k; accepting = when-accepted s k e; block = plain-is s node k t; durations = in-range lo hi u })
+          (λ u. record { task = k; accepting = when-accepted s k e; block = plain-is s node k t; durations = durations-kept lo hi u })
           (λ u. absurd (let f = rw (t, u) at q in let z : _≡_ {A = ℕ} 0 1 = cc in omega arith)))
           (λ t. absurd (let f = rw t at q in let z : _≡_ {A = ℕ} 0 1 = cc in omega arith))

@@ -1,5 +1,6 @@
--- The old durations restore the bytes; and the figures after an edit are those that the preview gave before it.
+-- What a possible edit leaves, editing back included; and the figures after an edit are those that the preview gave before it.
 use mathlib.Core.Path.{_≡_, sym, _∙_, ap}
+use mathlib.Core.Logic.{⊎-elim}
 use mathlib.Core.Bool.{true}
 use mathlib.Core.List.{List}
 use native.Mathlib.Omega.{arith}
@@ -10,15 +11,16 @@ use Rattle.image.specs.Fields.{plainOk, valueOk}
 use Rattle.image.specs.Nodes.{nodeAt}
 use Rattle.image.specs.Judged.{numberOf}
 use Rattle.image.specs.declared.Refusal.{Refusal}
+use Rattle.image.proofs.Kept.{durations-kept}
 use Rattle.figures.specs.declared.Answer.{Answer}
 use Rattle.figures.specs.Answers.{refused, resultOf, answer, tableAfter}
 use Rattle.figures.specs.Promise.{Equal}
 use Rattle.edits.specs.declared.Edited.the-variants.{Done, Refused as NotDone}
 use Rattle.edits.specs.Edits.{Change, done, placeOf, imageWith, change, imageFor, imageAfter, previewOf, previewTable}
-use Rattle.edits.specs.Promise.{Editable, Editing, Previewing}
-use Rattle.edits.proofs.Plain.{in-range, node-was, tag-of}
-use Rattle.edits.proofs.Written.{written-back}
-use Rattle.edits.proofs.Standing.{inside, place-same, leaves, still-accepting}
+use Rattle.edits.specs.Promise.{Editable, Editing, Restores, Leaves, Previewing}
+use Rattle.edits.proofs.Plain.{node-was, tag-of}
+use Rattle.edits.proofs.Written.{written-before, written-behind, written-back}
+use Rattle.edits.proofs.Standing.{inside, long, place-same, starts-same, node-other, node-same, weight-same, still-accepting, still-accepted}
 use Rattle.edits.proofs.Finds.{found-when}
 
 module _ (s : List ℕ) (node lo hi : ℕ) (d : Editable s node lo hi) where
@@ -30,43 +32,58 @@ module _ (s : List ℕ) (node lo hi : ℕ) (d : Editable s node lo hi) where
   edit-is = rw (found-when s node lo hi d)
 
   -- "what the edit on a copy and a fresh calculation would give", answer and table
-  pub preview-is : (table : List ℕ) → (previewOf s node lo hi table ≡ answer (imageAfter s node lo hi) table)
-      × (previewTable s node lo hi table ≡ tableAfter (imageAfter s node lo hi) table)
+  pub preview-is : (table : List ℕ) → (previewOf s node lo hi table ≡ answer (imageWith s node lo hi) table)
+      × (previewTable s node lo hi table ≡ tableAfter (imageWith s node lo hi) table)
   preview-is table = let f = found-when s node lo hi d in (rw f, rw f)
 
-  -- the old durations are in range, so that the edit can be undone, and then restores the bytes
-  module _ (l h : ℕ) (was : nodeAt s node ≡ Node.plain l h) where
-    tag : byteAt s (placeOf s node) ≡ 3
-    tag = tag-of s node (d .task) (d .block)
+  -- s is a list of bytes
+  module _ (small : (i : ℕ) → byteAt s i < 256) where
+    -- the old durations are in range, so that the edit can be undone, and then restores the bytes
+    module _ (l h : ℕ) (was : nodeAt s node ≡ Node.plain l h) where
+      tag : byteAt s (placeOf s node) ≡ 3
+      tag = tag-of s node (d .task) (d .block)
 
-    old : Node.plain (wordAt s (placeOf s node + 3)) (wordAt s (placeOf s node + 3 + 2)) ≡ Node.plain l h
-    old = sym (node-was s node tag) ∙ was
+      old : Node.plain (wordAt s (placeOf s node + 3)) (wordAt s (placeOf s node + 3 + 2)) ≡ Node.plain l h
+      old = sym (node-was s node tag) ∙ was
 
-    low : l ≡ wordAt s (placeOf s node + 3)
-    low = cc old
+      low : l ≡ wordAt s (placeOf s node + 3)
+      low = cc old
 
-    high : h ≡ wordAt s (placeOf s node + 3 + 2)
-    high = cc old
+      high : h ≡ wordAt s (placeOf s node + 3 + 2)
+      high = cc old
 
-    old-range : plainOk l h ≡ true
-    unfolding valueOk
-    old-range = rw (low, high) (rw tag at (d .accepting .complete .passed (node + 2) (omega (arith, d .block .exists)) .value))
+      old-range : plainOk l h ≡ true
+      unfolding valueOk
+      old-range = rw (low, high) (rw tag at (d .accepting .complete .passed (node + 2) (omega (arith, d .block .exists)) .value))
 
-    pub undoable : Editable (imageWith s node lo hi) node l h
-    undoable = record {
-      task = d .task;
-      accepting = still-accepting s node lo hi d;
-      block = record { exists = d .block .exists; plain = (lo, hi, leaves s node lo hi d .says) };
-      durations = in-range l h old-range;
+      undoable : Editable (imageWith s node lo hi) node l h
+      undoable = record {
+        task = d .task;
+        accepting = still-accepting s node lo hi d;
+        block = record { exists = d .block .exists; plain = (lo, hi, node-same s node lo hi d) };
+        durations = durations-kept l h old-range;
+      }
+
+      back : imageWith (imageWith s node lo hi) node l h ≡ s
+      back =
+          rw (place-same s node lo hi d (node + 2), low, high)
+          (written-back s (placeOf s node + 3) lo hi (inside s node lo hi d) small)
+
+      pub undone : Restores s node l h (imageWith s node lo hi)
+      undone = record { possible = undoable; bytes = rw (found-when (imageWith s node lo hi) node l h undoable) back }
+
+    pub leaves : Leaves s (d .task) node lo hi (imageWith s node lo hi)
+    leaves = record {
+      accepted = still-accepted s node lo hi d;
+      long = long s node lo hi d;
+      outside = λ i. ⊎-elim (λ l. written-before s (placeOf s node + 3) lo hi i (omega (arith, l))) (λ l. written-behind s (placeOf s node + 3) lo hi i (omega (arith, l)));
+      says = node-same s node lo hi d;
+      others = λ n l other. node-other s node lo hi d n (omega (arith, l)) (λ q. other (omega (arith, q)));
+      starts = starts-same s node lo hi d;
+      deep = λ n l. sym (weight-same s node lo hi d n (omega (arith, l, d .accepting .last)) .deep);
+      visited = λ n l. sym (weight-same s node lo hi d n (omega (arith, l, d .accepting .last)) .long);
+      back = undone;
     }
-
-    back : ((i : ℕ) → byteAt s i < 256) → imageWith (imageWith s node lo hi) node l h ≡ s
-    back small =
-        rw (place-same s node lo hi d (node + 2), low, high)
-        (written-back s (placeOf s node + 3) lo hi (inside s node lo hi d) small)
-
-    pub undone : ((i : ℕ) → byteAt s i < 256) → imageAfter (imageAfter s node lo hi) node l h ≡ s
-    undone small = rw edit-is (rw (found-when (imageWith s node lo hi) node l h undoable) (back small))
 
 -- calls one after another: `edit`, `figures` of what it left, and `preview`
 module _ (s : List ℕ) (node lo hi : ℕ) (before : List ℕ) where

@@ -4,6 +4,6 @@ pub mod Alike
 pub mod Plain
 pub mod Standing
 pub mod Finds
-pub mod Promises
 pub mod Laws
+pub mod Promises
 pub mod Worked

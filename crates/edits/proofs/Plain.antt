@@ -1,14 +1,13 @@
--- A plain block, by its field's tag and by what the node says; and the rule of its durations, as the row computes it and in plain terms.
-use borrow.Author.Tests.{lt-ltb, ltb-true, leb-true, eq-eqb, eqb-true, le-leb}
+-- A plain block, by its field's tag and by what the node says.
+use borrow.Author.Tests.{lt-ltb, ltb-true, eq-eqb, eqb-true}
 use mathlib.Core.Path.{_≡_, refl}
-use mathlib.Core.Bool.{Bool, true, false, _&&_}
+use mathlib.Core.Bool.{Bool, true, false}
 use mathlib.Core.List.{List}
-use lib.Dec.{eqb, ltb, leb}
+use lib.Dec.{eqb, ltb}
 use native.Mathlib.Omega.{arith}
-use Prim.Native.Nat.{ℕ, _+_, _-_}
+use Prim.Native.Nat.{ℕ, _+_}
 use Rattle.runs.specs.Nodes.{Node as RunNode}
 use Rattle.image.specs.Bytes.{byteAt, wordAt}
-use Rattle.image.specs.Fields.{plainOk}
 use Rattle.image.specs.Nodes.{pickNode, nodeFrom, meant, nodeAt}
 use Rattle.image.specs.declared.nodes.Node.the-variants.{Plain, Bus, Sequence, Branch, Loop}
 use Rattle.image.specs.declared.nodes.Plain.{Plain as PlainNumbers}
@@ -18,19 +17,7 @@ use Rattle.image.specs.declared.nodes.Loop.{Loop as LoopNumbers}
 use Rattle.image.specs.declared.Task.{Task}
 use Rattle.image.proofs.Numbers.{both}
 use Rattle.edits.specs.Edits.{placeOf, isPlain}
-use Rattle.edits.specs.Promise.{PlainBlock, Durations}
-
--- the row of tag 3
-pub in-range : (lo hi : ℕ) → plainOk lo hi ≡ true → Durations lo hi
-unfolding plainOk
-in-range lo hi e =
-    let p = both (leb hi 65535) (leb lo hi && leb (hi - lo) 63) e in
-    let q = both (leb lo hi) (leb (hi - lo) 63) (p .1) in
-    record { most = leb-true hi 65535 (p .0); order = leb-true lo hi (q .0); near = omega (arith, leb-true (hi - lo) 63 (q .1)) }
-
-pub range-in : (lo hi : ℕ) → Durations lo hi → plainOk lo hi ≡ true
-unfolding plainOk
-range-in lo hi d = simp (le-leb hi 65535 (d .most), le-leb lo hi (d .order), le-leb (hi - lo) 63 (omega (arith, d .near)))
+use Rattle.edits.specs.Promise.{PlainBlock}
 
 -- a node that is plain has tag 3
 plain-tag : (s : List ℕ) (t3 t4 t5 t6 : Bool) (p : PlainNumbers) (b : BusBlock) (c d : Children) (l : LoopNumbers) (lo hi : ℕ)

@@ -6,11 +6,14 @@ use lib.ListN.{length}
 use lib.Dec.{ltb}
 use borrow.Author.Tests.{lt-ltb, le-ltb, ltb-true}
 use native.Mathlib.Omega.{arith}
-use Prim.Native.Nat.{ℕ, _+_}
+use Prim.Native.Nat.{ℕ, _+_, _≤_, _<_}
+use Rattle.runs.proofs.Cases.{split}
+use Rattle.image.specs.Bytes.{byteAt}
 use Rattle.image.specs.Judged.{numberOf}
 use Rattle.image.specs.Nodes.{taskOf}
 use Rattle.image.specs.declared.Refusal.{Refusal}
 use Rattle.image.specs.declared.Refusal.the-variants.{Cut, Tag, Full, Length, Value, Forward, Unfinished, Deep, Long, Table, Block}
+use Rattle.figures.specs.declared.Totals.{Totals}
 use Rattle.figures.specs.declared.Answer.{Answer}
 use Rattle.figures.specs.declared.Answer.the-variants.{Given, Refused as NotGiven}
 use Rattle.figures.specs.Answers.{refused, resultOf, periodOf, figuresOf}
@@ -19,9 +22,10 @@ use Rattle.edits.specs.declared.Found.{Found}
 use Rattle.edits.specs.declared.Found.the-variants.{At, Refused as NotFound}
 use Rattle.edits.specs.declared.Edited.the-variants.{Done, Refused as NotDone}
 use Rattle.edits.specs.Edits.{withDurations, imageWith, found}
-use Rattle.edits.specs.Promise.{Editable, PreviewCondition, no-edit, short-table, Editing, Leaves, EditDone, Previewing, Foreseen, Foresees}
+use Rattle.edits.specs.Promise.{Editable, PreviewCondition, no-edit, short-table, Editing, Leaves, EditDone, Previewing, Foreseen, PreviewGiven}
 use Rattle.edits.specs.Steps.{Finding}
-use Rattle.edits.proofs.Standing.{leaves}
+use Rattle.edits.proofs.Standing.{long, still-accepted}
+use Rattle.edits.proofs.Laws.{leaves}
 use Rattle.edits.proofs.Finds.{edit-because, edit-whenever, found-when, when-found}
 
 -- 10 is the number of `Table` alone
@@ -60,6 +64,7 @@ module _ (s : List ℕ) (node lo hi : ℕ) (f : Found) (h : Finding s node lo hi
           let b : place ≡ p = cc in
           rw (← a, ← b) (edit-because s node lo hi r place not-found);
       whenever = λ x p c. let w = same-refusal x p (edit-whenever s node lo hi x p c) in rw (w .0, w .1);
+      possible = λ c. absurd (let z : _≡_ {A = ℕ} 0 1 = cc in omega arith);
     }
 
     pub refused-done : EditDone s node lo hi (NotDone r place) s
@@ -79,9 +84,10 @@ module _ (s : List ℕ) (node lo hi : ℕ) (f : Found) (h : Finding s node lo hi
             let b : place ≡ p = cc in
             rw (← a, ← b) (no-edit r place (edit-because s node lo hi r place not-found));
         whenever = when-not;
+        possible = λ t c. absurd (let z : _≡_ {A = ℕ} 0 1 = cc in omega arith);
       }
 
-      pub refused-foreseen : Foresees s node lo hi before (NotGiven r place) before
+      pub refused-foreseen : PreviewGiven s node lo hi before (NotGiven r place) before
       refused-foreseen d = absurd (impossible d)
 
   -- ---- the edit is possible
@@ -103,17 +109,18 @@ module _ (s : List ℕ) (node lo hi : ℕ) (f : Found) (h : Finding s node lo hi
         image = rw at-place (w ∙ there);
         because = λ x p c. absurd (let z : _≡_ {A = ℕ} 0 1 = cc in omega arith);
         whenever = λ x p c. absurd (not-refused x p (edit-whenever s node lo hi x p c));
+        possible = λ c. when-found s node lo hi place at-place;
       }
 
-      pub done-done : EditDone s node lo hi Done after
-      done-done d = (refl, subst (Leaves s (d .task) node lo hi) (sym (w ∙ there)) (leaves s node lo hi d))
+      pub done-done : ((i : ℕ) → byteAt s i < 256) → EditDone s node lo hi Done after
+      done-done small d = (refl, subst (Leaves s (d .task) node lo hi) (sym (w ∙ there)) (leaves s node lo hi d small))
 
     -- the figures of the copy
     module _ (before : List ℕ) (r : Answer) (after : List ℕ) (g : Equal (withDurations s (place + 3) lo hi) before r after) where
       -- of the edited image and the same task, with 10 last
       answered : (d : Editable s node lo hi) → resultOf r
           ≡ cond (ltb (length before) (periodOf (d .task))) (refused 10 (length s)) (figuresOf (taskOf (imageWith s node lo hi) (d .task)))
-      answered d = let l = leaves s node lo hi d in rw (l .accepted, l .long) at (rw there at (g .result))
+      answered d = rw (still-accepted s node lo hi d, long s node lo hi d) at (rw there at (g .result))
 
       only-table : (x : Refusal) (p : ℕ) → r ≡ NotGiven x p → PreviewCondition s node lo hi before x p
       only-table x p q =
@@ -140,22 +147,28 @@ module _ (s : List ℕ) (node lo hi : ℕ) (f : Found) (h : Finding s node lo hi
               let b : p ≡ length s = cc in
               rw (is-table y n, b)
 
+      enough : (d : Editable s node lo hi) (t : Totals) → r ≡ Given t → periodOf (d .task) ≤ length before
+      enough d t q =
+          split (periodOf (d .task)) (length before) (λ l. omega (arith, l))
+          (λ l. absurd (let w = when-table Table (length s) (short-table d l) in let z : _≡_ {A = ℕ} 0 1 = cc in omega arith))
+
       pub preview-given : Previewing s node lo hi before r after
       preview-given = record {
         result = rw at-place (rw there at (g .result));
         table = rw at-place (rw there at (g .table));
         because = only-table;
         whenever = when-table;
+        possible = λ t q. let d = when-found s node lo hi place at-place in (d, enough d t q);
       }
 
       -- demands 3 and 2 of the copy are those of the edited image
       module _ (d3 : Demand3 (withDurations s (place + 3) lo hi) r after) (d2 : Demand2 (withDurations s (place + 3) lo hi) r) where
-        pub given-foreseen : Foresees s node lo hi before r after
+        pub given-foreseen : PreviewGiven s node lo hi before r after
         given-foreseen d l =
             by-answer r refl (rw (le-ltb (length before) (periodOf (d .task)) (omega (arith, l))) at (answered d))
           where
             by-answer : (x : Answer) → r ≡ x → resultOf x ≡ figuresOf (taskOf (imageWith s node lo hi) (d .task)) → Foreseen (imageWith s node lo hi) (d .task) r after
             by-answer (Given t) q w =
-                let a = leaves s node lo hi d .accepted in
+                let a = still-accepted s node lo hi d in
                 record { totals = t; given = q; demand3 = (rw there at d3) (d .task) t a q; demand2 = (rw there at d2) (d .task) t a q }
             by-answer (NotGiven x p) q w = absurd (let z : _≡_ {A = ℕ} 0 1 = cc in omega arith)

@@ -1,7 +1,6 @@
 -- A possible edit leaves every field where it stands, and every other node as it was; the image stays accepted, with the same task.
 use mathlib.Core.Path.{_≡_, sym, _∙_, subst}
 use mathlib.Core.Bool.{true}
-use mathlib.Core.Logic.{⊎-elim}
 use mathlib.Core.List.{List}
 use lib.ListN.{length}
 use borrow.Author.Tests.{eqb-true}
@@ -14,13 +13,15 @@ use Rattle.image.specs.Bytes.{byteAt, wordAt}
 use Rattle.image.specs.Fields.{lengthOk, valueOk, childrenOk, busOf}
 use Rattle.image.specs.Nodes.{fieldAt, nodeFrom, meant, nodeAt, treeAt, startsOf}
 use Rattle.image.specs.Conditions.{tagAt, lengthAt, bodyAt, GoodField, Accepting}
+use Rattle.image.specs.Judged.{judged}
+use Rattle.image.specs.declared.Verdict.the-variants.{Accepted}
 use Rattle.image.proofs.Passing.{next-at, first-at, fewer}
-use Rattle.image.proofs.Kept.{bus-row, node-tag}
+use Rattle.image.proofs.Kept.{kept-durations, bus-row, node-tag}
 use Rattle.image.proofs.Levels.{falls}
 use Rattle.image.proofs.Reasons.{accepted-when}
 use Rattle.edits.specs.Edits.{placeOf, imageWith}
-use Rattle.edits.specs.Promise.{Editable, Leaves}
-use Rattle.edits.proofs.Plain.{range-in, node-was, tag-of}
+use Rattle.edits.specs.Promise.{Editable}
+use Rattle.edits.proofs.Plain.{node-was, tag-of}
 use Rattle.edits.proofs.Written.{written-length, written-before, written-behind, written-lowest, written-highest}
 use Rattle.edits.proofs.Reading.{Agree, agree-part, agree-word, agree-bytes, agree-value, agree-children, agree-node}
 use Rattle.edits.proofs.Alike.{Alike, same, plains, Equally, equally}
@@ -54,7 +55,7 @@ module _ (s : List ℕ) (node lo hi : ℕ) (d : Editable s node lo hi) where
   pub inside : placeOf s node + 3 + 4 ≤ length s
   inside = omega (arith, here .body, four)
 
-  long : length after ≡ length s
+  pub long : length after ≡ length s
   long = written-length s (placeOf s node + 3) lo hi
 
   -- bytes of other fields, and of every head
@@ -97,7 +98,7 @@ module _ (s : List ℕ) (node lo hi : ℕ) (d : Editable s node lo hi) where
   bus-same : busOf after ≡ busOf s
   bus-same = rw (early 3 (omega arith), early 4 (omega arith), early 5 (omega arith))
 
-  starts-same : startsOf after ≡ startsOf s
+  pub starts-same : startsOf after ≡ startsOf s
   starts-same = rw starts-word (agree-bytes s after 9 (wordAt s 7) (λ i p q. early i (omega arith)))
 
   -- a field whose numbers keep their row's rules is good
@@ -141,7 +142,7 @@ module _ (s : List ℕ) (node lo hi : ℕ) (d : Editable s node lo hi) where
   own-good : GoodField after (node + 2)
   unfolding valueOk childrenOk
   own-good =
-      still-good (node + 2) (omega (arith, d .block .exists)) (rw (tag, lowest, highest) (range-in lo hi (d .durations))) (rw tag)
+      still-good (node + 2) (omega (arith, d .block .exists)) (rw (tag, lowest, highest) (kept-durations lo hi (d .durations))) (rw tag)
 
   all-good : (j : ℕ) → j < d .task .nodes + 2 → GoodField after j
   all-good j l =
@@ -152,7 +153,7 @@ module _ (s : List ℕ) (node lo hi : ℕ) (d : Editable s node lo hi) where
       (λ p. body-good j l (body-before j p))
 
   -- every other node says what it said
-  node-other : (n : ℕ) → n < d .task .nodes → (n ≡ node → ⊥) → nodeAt after n ≡ nodeAt s n
+  pub node-other : (n : ℕ) → n < d .task .nodes → (n ≡ node → ⊥) → nodeAt after n ≡ nodeAt s n
   unfolding nodeAt
   node-other n l ne =
       let g = good (n + 2) (omega arith) in
@@ -167,7 +168,7 @@ module _ (s : List ℕ) (node lo hi : ℕ) (d : Editable s node lo hi) where
       distinct : node ≤ n → node < n
       distinct m = split n node (λ q. absurd (ne (omega arith))) (λ q. q)
 
-  node-same : nodeAt after node ≡ Node.plain lo hi
+  pub node-same : nodeAt after node ≡ Node.plain lo hi
   unfolding nodeAt nodeFrom meant
   node-same = rw (place-same (node + 2), tag-same (node + 2), tag) (rw (lowest, highest))
 
@@ -183,7 +184,7 @@ module _ (s : List ℕ) (node lo hi : ℕ) (d : Editable s node lo hi) where
       other : (n : ℕ) → n < suc (d .task .entry) → (n ≡ node → ⊥) → Alike (nodeAt s n) (nodeAt after n)
       other n l ne = rw (node-other n (omega (arith, d .accepting .last)) ne) (same (nodeAt s n))
 
-  weight-same : (n : ℕ) → n < suc (d .task .entry) → Equally (treeAt s n) (treeAt after n)
+  pub weight-same : (n : ℕ) → n < suc (d .task .entry) → Equally (treeAt s n) (treeAt after n)
   weight-same n l =
       equally (nodeAt s) (nodeAt after) (suc (d .task .entry))
       (falls s (d .task .entry) (fewer s (d .task .entry + 3) (d .task .nodes + 2) (omega (arith, d .accepting .last)) (d .accepting .complete .passed)))
@@ -203,14 +204,5 @@ module _ (s : List ℕ) (node lo hi : ℕ) (d : Editable s node lo hi) where
         starts = a .starts ∙ sym starts-word;
       }
 
-  pub leaves : Leaves s (d .task) node lo hi after
-  leaves = record {
-    accepted = accepted-when after (d .task) still-accepting;
-    long = long;
-    outside = λ i. ⊎-elim (λ l. written-before s (placeOf s node + 3) lo hi i (omega (arith, l))) (λ l. written-behind s (placeOf s node + 3) lo hi i (omega (arith, l)));
-    says = node-same;
-    others = node-other;
-    starts = starts-same;
-    deep = λ n l. sym (weight-same n (omega (arith, d .accepting .last)) .deep);
-    visited = λ n l. sym (weight-same n (omega (arith, d .accepting .last)) .long);
-  }
+  pub still-accepted : judged after ≡ Accepted (d .task)
+  still-accepted = accepted-when after (d .task) still-accepting

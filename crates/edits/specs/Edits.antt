@@ -5,9 +5,9 @@ use mathlib.Core.List.{List}
 use lib.ListN.{length, set}
 use lib.Dec.{eqb, ltb}
 use Prim.Native.Nat.{ℕ, _+_, _/_, _%_}
-use Rattle.image.specs.Bytes.{byteAt}
 use Rattle.image.specs.Fields.{plainOk}
 use Rattle.image.specs.Nodes.{fieldAt}
+use Rattle.image.specs.Conditions.{tagAt, bodyAt}
 use Rattle.image.specs.Judged.{numberOf, judged}
 use Rattle.image.specs.declared.Refusal.the-variants.{Value, Block}
 use Rattle.image.specs.declared.Task.{Task}
@@ -30,11 +30,11 @@ withDurations s place lowest highest =
 
 -- "sets those four bytes of the lent image to the given durations and alters no others": the body of the block's field
 abbrev pub imageWith : List ℕ → ℕ → ℕ → ℕ → List ℕ
-imageWith s node lowest highest = withDurations s (placeOf s node + 3) lowest highest
+imageWith s node lowest highest = withDurations s (bodyAt s (node + 2)) lowest highest
 
 -- not 19: the node exists, and its field's tag is that of a plain block
 abbrev pub isPlain : List ℕ → Task → ℕ → Bool
-isPlain s k node = ltb node (k .nodes) && eqb (byteAt s (placeOf s node)) 3
+isPlain s k node = ltb node (k .nodes) && eqb (tagAt s (node + 2)) 3
 
 -- "Unaccepted images are refused first, by their own numbers"; then 19, "with the image's length as place", "judged before that 5", and
 -- 5 "at that block's field". Else the place of the field.
@@ -45,6 +45,7 @@ foundFor s node lowest highest (Accepted k) =
     (cond (plainOk lowest highest) (At (placeOf s node)) (NotFound Value (placeOf s node)))
     (NotFound Block (length s))
 
+-- the same, the image judged
 unfoldable pub found : List ℕ → ℕ → ℕ → ℕ → Found
 found s node lowest highest = foundFor s node lowest highest (judged s)
 
@@ -63,6 +64,7 @@ abbrev pub changeFor : Found → Change
 changeFor (At place) = done
 changeFor (NotFound r place) = refused (numberOf r) place
 
+-- done, or refused with a number at a place
 abbrev pub change : List ℕ → ℕ → ℕ → ℕ → Change
 change s node lowest highest = changeFor (found s node lowest highest)
 
@@ -71,6 +73,7 @@ abbrev pub imageFor : List ℕ → ℕ → ℕ → ℕ → Change → List ℕ
 imageFor s node lowest highest done = imageWith s node lowest highest
 imageFor s node lowest highest (refused number place) = s
 
+-- the image that a call leaves
 abbrev pub imageAfter : List ℕ → ℕ → ℕ → ℕ → List ℕ
 imageAfter s node lowest highest = imageFor s node lowest highest (change s node lowest highest)
 
@@ -80,6 +83,7 @@ abbrev pub previewFor : List ℕ → List ℕ → Change → Result
 previewFor copy table done = answer copy table
 previewFor copy table (refused number place) = Result.refused number place
 
+-- the answer for any bytes, numbers and table
 abbrev pub previewOf : List ℕ → ℕ → ℕ → ℕ → List ℕ → Result
 previewOf s node lowest highest table = previewFor (imageAfter s node lowest highest) table (change s node lowest highest)
 
@@ -88,5 +92,6 @@ abbrev pub previewTableFor : List ℕ → List ℕ → Change → List ℕ
 previewTableFor copy table done = tableAfter copy table
 previewTableFor copy table (refused number place) = table
 
+-- the table that a call leaves
 abbrev pub previewTable : List ℕ → ℕ → ℕ → ℕ → List ℕ → List ℕ
 previewTable s node lowest highest table = previewTableFor (imageAfter s node lowest highest) table (change s node lowest highest)

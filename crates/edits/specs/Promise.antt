@@ -3,11 +3,12 @@ use mathlib.Core.Path.{_≡_}
 use mathlib.Core.Logic.{_⊎_}
 use mathlib.Core.List.{List}
 use lib.ListN.{length}
-use Prim.Native.Nat.{ℕ, _+_, _-_, _≤_, _<_}
+use Prim.Native.Nat.{ℕ, _+_, _≤_, _<_}
 use Rattle.runs.specs.Nodes.{Node, depth, visits}
 use Rattle.image.specs.Bytes.{byteAt}
 use Rattle.image.specs.Nodes.{nodeAt, treeAt, startsOf, taskOf}
 use Rattle.image.specs.Conditions.{Condition, Accepting}
+use Rattle.image.specs.Promise.{Durations}
 use Rattle.image.specs.Judged.{judged}
 use Rattle.image.specs.declared.Refusal.{Refusal}
 use Rattle.image.specs.declared.Refusal.the-variants.{Value, Table, Block}
@@ -30,12 +31,7 @@ pub record PlainBlock (s : List ℕ) (k : Task) (node : ℕ) : Type 0 where
   pub exists : node < k .nodes
   pub plain : (lowest highest : ℕ) × (nodeAt s node ≡ Node.plain lowest highest)
 
--- the row of tag 3: "0 to 65,535, lowest ≤ highest, difference at most 63"
-pub record Durations (lowest highest : ℕ) : Type 0 where
-  pub most : highest ≤ 65535
-  pub order : lowest ≤ highest
-  pub near : highest - lowest ≤ 63
-
+-- an edit is possible: an accepted image, such a block, and durations that keep its row's rule
 pub record Editable (s : List ℕ) (node lowest highest : ℕ) : Type 0 where
   pub task : Task
   pub accepting : Accepting s task
@@ -60,12 +56,18 @@ pub data PreviewCondition (s : List ℕ) (node lowest highest : ℕ) (table : Li
 
 -- ---- `edit`, over the image at entry and at exit
 
--- equality, for refused edits too; and refused if and only if the condition for it holds
+-- equality, for refused edits too; refused if and only if the condition for it holds, and done only if it is possible
 pub record Editing (s : List ℕ) (node lowest highest : ℕ) (r : Edited) (after : List ℕ) : Type 0 where
   pub result : changeOf r ≡ change s node lowest highest
   pub image : after ≡ imageAfter s node lowest highest
   pub because : (x : Refusal) (place : ℕ) → r ≡ NotDone x place → EditCondition s node lowest highest x place
   pub whenever : (x : Refusal) (place : ℕ) → EditCondition s node lowest highest x place → r ≡ NotDone x place
+  pub possible : r ≡ Done → Editable s node lowest highest
+
+-- the durations l to h are possible in an edited image, and restore the bytes s
+pub record Restores (s : List ℕ) (node l h : ℕ) (after : List ℕ) : Type 0 where
+  pub possible : Editable after node l h
+  pub bytes : imageAfter after node l h ≡ s
 
 -- what an edit that is done leaves of the image s and its task k
 pub record Leaves (s : List ℕ) (k : Task) (node lowest highest : ℕ) (after : List ℕ) : Type 0 where
@@ -80,6 +82,8 @@ pub record Leaves (s : List ℕ) (k : Task) (node lowest highest : ℕ) (after :
   pub starts : startsOf after ≡ startsOf s
   pub deep : (n : ℕ) → n < k .nodes → depth (treeAt after n) ≡ depth (treeAt s n)
   pub visited : (n : ℕ) → n < k .nodes → visits (treeAt after n) ≡ visits (treeAt s n)
+  -- editing back restores the bytes
+  pub back : (l h : ℕ) → nodeAt s node ≡ Node.plain l h → Restores s node l h after
 
 -- an edit that is possible is done
 abbrev pub EditDone : List ℕ → ℕ → ℕ → ℕ → Edited → List ℕ → Type 0
@@ -87,11 +91,13 @@ EditDone s node lowest highest r after = (e : Editable s node lowest highest) �
 
 -- ---- `preview`, over the table at entry and at exit; the image is lent as `&` and stays
 
+-- equality, for refused previews too; refused if and only if the condition for it holds, and given only if the edit is possible
 pub record Previewing (s : List ℕ) (node lowest highest : ℕ) (before : List ℕ) (r : Answer) (after : List ℕ) : Type 0 where
   pub result : resultOf r ≡ previewOf s node lowest highest before
   pub table : after ≡ previewTable s node lowest highest before
   pub because : (x : Refusal) (place : ℕ) → r ≡ NotGiven x place → PreviewCondition s node lowest highest before x place
   pub whenever : (x : Refusal) (place : ℕ) → PreviewCondition s node lowest highest before x place → r ≡ NotGiven x place
+  pub possible : (f : Totals) → r ≡ Given f → (e : Editable s node lowest highest) × (periodOf (e .task) ≤ length before)
 
 -- figures are given, and demands 3 and 2 hold of them and of the task k that the image s says
 pub record Foreseen (s : List ℕ) (k : Task) (r : Answer) (after : List ℕ) : Type 0 where
@@ -101,6 +107,6 @@ pub record Foreseen (s : List ℕ) (k : Task) (r : Answer) (after : List ℕ) : 
   pub demand2 : ByAlgorithms s k totals
 
 -- of an edit that is possible, with a place for each offset: figures of the edited image
-abbrev pub Foresees : List ℕ → ℕ → ℕ → ℕ → List ℕ → Answer → List ℕ → Type 0
-Foresees s node lowest highest before r after = (e : Editable s node lowest highest) → periodOf (e .task) ≤ length before
+abbrev pub PreviewGiven : List ℕ → ℕ → ℕ → ℕ → List ℕ → Answer → List ℕ → Type 0
+PreviewGiven s node lowest highest before r after = (e : Editable s node lowest highest) → periodOf (e .task) ≤ length before
     → Foreseen (imageWith s node lowest highest) (e .task) r after

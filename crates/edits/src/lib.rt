@@ -1,18 +1,20 @@
 // edits: one plain block's durations tried and changed (document 02, "Trying a change before making it").
 //
 // `edit` and `preview` ask nothing of their caller, and promise of every image, numbers and table (specs/Promise.antt):
-//   edit     `Editing`: the answer and the image at exit equal definitions (specs/Edits.antt), for refused edits too, and each refusal has its
-//            condition; `EditDone`: a possible edit is done and leaves an accepted image in which one node says something else. Wrong answers
-//            that these rule out: a fifth byte, the neighbour's bytes, 5 for a node that is no block, a refused edit that writes
-//   preview  `Previewing`: the answer and the table equal those of a fresh calculation on the edited copy, or the edit's own refusal;
-//            `Foresees`: figures are given, and demands 2 and 3 hold of them. Ruled out: the figures of the image as it is, 10 before 5
+//   edit     `Editing`: the answer and the image at exit equal definitions (specs/Edits.antt), for refused edits too; refused if and only if
+//            the condition for it holds. `EditDone`: a possible edit is done and leaves an accepted image, in which that block has the given
+//            durations and all else is as it was; the old durations restore it. Wrong answers that these rule out: a fifth byte, the
+//            neighbour's bytes, 5 for a node that is not plain, a refused edit that writes
+//   preview  `Previewing`: the answer and the table equal those of a fresh calculation on the edited copy, or the edit's own refusal.
+//            `PreviewGiven`: for a possible edit and a table with a place for each offset figures are given, and demands 3 and 2 hold of them
+//            and the edited image. Ruled out: the figures of the image as it is, 10 before 5
 ghost use mathlib.Core.Path.{_≡_};
 ghost use mathlib.Core.List.{_++_};
 ghost use Prim.Native.Nat.{_+_, _≤_};
 ghost use lib.ListN.{length, drop};
 ghost use Rattle.figures.specs.Promise.{Equal, Demand3, Demand2};
 ghost use Rattle.edits.specs.Edits.{withDurations};
-ghost use Rattle.edits.specs.Promise.{Editing, EditDone, Previewing, Foresees};
+ghost use Rattle.edits.specs.Promise.{Editing, EditDone, Previewing, PreviewGiven};
 ghost use Rattle.edits.specs.Steps.{Room, Finding};
 use figures::Answer;
 use image::Refusal;
@@ -120,7 +122,7 @@ pub fn preview(
     table: &mut [u64],
 ) -> Answer
     ensures equality { λ r. ⌜ Previewing (now (image .entry)) node lowest highest (now (table .entry)) r (now (table .exit)) ⌝ }
-    ensures figures { λ r. ⌜ Foresees (now (image .entry)) node lowest highest (now (table .entry)) r (now (table .exit)) ⌝ }
+    ensures figures { λ r. ⌜ PreviewGiven (now (image .entry)) node lowest highest (now (table .entry)) r (now (table .exit)) ⌝ }
 {
     let found = find(image, node, lowest, highest);
     match found {

@@ -7,12 +7,12 @@ use Prim.Native.Nat.{ℕ, _+_, _-_, _*_, _/_, _%_, _≤_}
 use native.Mathlib.Omega.{arith}
 use lib.ListN.{length}
 use lib.Dec.{leb, ltb, eqb}
-use borrow.Author.Tests.{ltb-true, leb-true, eqb-true, ne-eqb}
+use borrow.Author.Tests.{ltb-true, leb-true, le-leb, eqb-true, ne-eqb}
 use Rattle.image.specs.Bytes.{byteAt, wordAt}
 use Rattle.image.specs.Fields.{within, tagOk, lengthOk, busOk, plainOk, blockOk, startsOk, loopOk, valueOk, below, childrenOk, busOf}
 use Rattle.image.specs.Nodes.{fieldAt, nodeFrom, nodeOf}
 use Rattle.image.specs.Conditions.{tagAt, lengthAt, bodyAt, GoodField}
-use Rattle.image.specs.Promise.{Starts, Fine}
+use Rattle.image.specs.Promise.{Starts, Durations, Fine}
 use Rattle.bus.specs.Waits.{Ranges}
 use Rattle.bus.specs.declared.Bus.{Bus}
 use Rattle.image.proofs.Numbers.{eq-or-ne, both, is-within}
@@ -27,17 +27,26 @@ by-tag P t lo hi p3 p4 p5 p6 p7 =
     (λ n6. let e : t ≡ 7 = omega arith in subst P (sym e) p7)
     (eq-or-ne t 6)) (eq-or-ne t 5)) (eq-or-ne t 4)) (eq-or-ne t 3)
 
+-- row 3, and its test
+pub durations-kept : (lo hi : ℕ) → plainOk lo hi ≡ true → Durations lo hi
+unfolding plainOk
+durations-kept lo hi e =
+    let p = both (leb hi 65535) (leb lo hi && leb (hi - lo) 63) e in
+    let q = both (leb lo hi) (leb (hi - lo) 63) (p .1) in
+    record { most = leb-true hi 65535 (p .0); order = leb-true lo hi (q .0); near = leb-true (hi - lo) 63 (q .1) }
+
+pub kept-durations : (lo hi : ℕ) → Durations lo hi → plainOk lo hi ≡ true
+unfolding plainOk
+kept-durations lo hi d = simp (le-leb hi 65535 (d .most), le-leb lo hi (d .order), le-leb (hi - lo) 63 (d .near))
+
 -- rows 3 to 7, for the node `own` whose body of n bytes stands at b
 module _ (s : List ℕ) (b n own : ℕ) (inside : b + n ≤ length s) where
   abbrev Keeps : ℕ → Type 0
   Keeps t = lengthOk t n ≡ true → valueOk s t b n ≡ true → childrenOk s t b n (own + 2) ≡ true → Fine s own (nodeFrom s t b n)
 
   plain-fine : Keeps 3
-  unfolding valueOk plainOk nodeFrom Fine
-  plain-fine l v c =
-      let p = both (leb (wordAt s (b + 2)) 65535) (leb (wordAt s b) (wordAt s (b + 2)) && leb (wordAt s (b + 2) - wordAt s b) 63) v in
-      let q = both (leb (wordAt s b) (wordAt s (b + 2))) (leb (wordAt s (b + 2) - wordAt s b) 63) (p .1) in
-      (leb-true _ _ (q .0), leb-true _ _ (p .0), leb-true _ _ (q .1))
+  unfolding valueOk nodeFrom Fine
+  plain-fine l v c = durations-kept (wordAt s b) (wordAt s (b + 2)) v
 
   block-fine : Keeps 4
   unfolding valueOk blockOk nodeFrom Fine

@@ -62,7 +62,7 @@ module _ (s : List ℕ) (t : Task) (a : Accepting s t) where
 -- the ranges of a node's row are those that the theorem asks for
 in-range : (s : List ℕ) (b : Bus) (own : ℕ) (x : Node) → b .slot ≡ byteAt s 4 → Fine s own x → InRange (equal (slotsOf b)) (meant s x)
 unfolding meant Fine equal
-in-range s b own (Plain p) e f = (f .0, f .1)
+in-range s b own (Plain p) e f = (f .order, f .most)
 in-range s b own (Block k) e f = (f .0, f .1, rw e (f .2))
 in-range s b own (Sequence c) e f = tt
 in-range s b own (Branch c) e f = words-some s (c .place) (c .count) (omega (arith, f .0))

@@ -80,7 +80,7 @@ module _ (s : List ℕ) (t : Task) (places : List ℕ) (w : Walkable s t places)
     pub as-plain : (p : PlainNumbers) → nodeOf s (getD places n 0) ≡ Plain p
         → (treeAt s n ≡ Tree.plain (p .lowest) (p .highest)) × (p .lowest ≤ p .highest) × (p .highest ≤ 65535) × (p .highest ≤ p .lowest + 63)
     unfolding meant treeBy Fine
-    as-plain p e = let f = fine-here s n _ here (Plain p) e in (tree-here s n _ here (Plain p) e, f .0, f .1, omega (arith, f .0, f .2))
+    as-plain p e = let f = fine-here s n _ here (Plain p) e in (tree-here s n _ here (Plain p) e, f .order, f .most, omega (arith, f .order, f .near))
 
     pub as-block : (b : BusBlock) → nodeOf s (getD places n 0) ≡ Block b
         → (treeAt s n ≡ Tree.bus (kindMeant (b .kind)) (b .lowest) (b .highest)) × (1 ≤ b .lowest) × (b .lowest ≤ b .highest) × (b .highest ≤ t .bus .slot)

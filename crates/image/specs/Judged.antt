@@ -19,7 +19,7 @@ use Rattle.image.specs.declared.fields.End.the-variants.{Stopped, Whole}
 use Rattle.image.specs.declared.Verdict.{Verdict}
 use Rattle.image.specs.declared.Verdict.the-variants.{Accepted, Refused}
 
--- "Number"
+-- "Number"; 19 is one of the new numbers of document 02
 abbrev pub numberOf : Refusal → ℕ
 numberOf Cut = 1
 numberOf Tag = 2

@@ -28,9 +28,15 @@ pub record Starts (s : List ℕ) (n period : ℕ) : Type 0 where
 abbrev pub NamesBelow : List ℕ → ℕ → ℕ → ℕ → Type 0
 NamesBelow s place n own = (i : ℕ) → i < n → wordAt s (place + 2 * i) < own
 
+-- row 3: "0 to 65,535, lowest ≤ highest, difference at most 63"
+pub record Durations (lowest highest : ℕ) : Type 0 where
+  pub most : highest ≤ 65535
+  pub order : lowest ≤ highest
+  pub near : highest - lowest ≤ 63
+
 -- rows 3 to 7: the numbers of the node with the number `own`
 unfoldable pub Fine : List ℕ → ℕ → Node → Type 0
-Fine s own (Plain p) = (p .lowest ≤ p .highest) × (p .highest ≤ 65535) × (p .highest - p .lowest ≤ 63)
+Fine s own (Plain p) = Durations (p .lowest) (p .highest)
 Fine s own (Block b) = (1 ≤ b .lowest) × (b .lowest ≤ b .highest) × (b .highest ≤ byteAt s 4)
 Fine s own (Sequence c) = (1 ≤ c .count) × (c .count ≤ 16) × (c .place + 2 * c .count ≤ length s) × NamesBelow s (c .place) (c .count) own
 Fine s own (Branch c) = (2 ≤ c .count) × (c .count ≤ 8) × (c .place + 2 * c .count ≤ length s) × NamesBelow s (c .place) (c .count) own

@@ -26,8 +26,8 @@ pub mod read;
 pub mod rows;
 mod weigh;
 
-// Why no figure is given: the words of the table. Judging answers the first nine; `Table` is for a caller that lends a table, `Block`
-// for one that edits a block.
+// Why an image gets no answer: the words of the papers' tables. Judging answers the first nine; `Table` is for a caller that lends a table,
+// `Block` for one that edits a block (19, document 02).
 pub enum Refusal {
     Cut,
     Tag,

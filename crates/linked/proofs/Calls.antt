@@ -1,13 +1,16 @@
 -- What each return of the calls leaves is what the definitions say.
 use borrow.Author.Tests.{lt-ltb, le-ltb}
 use mathlib.Core.Path.{_≡_, refl, sym, _∙_, ap, subst}
-use mathlib.Core.Bool.{Bool, cond}
+use mathlib.Core.Bool.{Bool, true, false, cond}
 use mathlib.Core.List.{List, [], _∷_, _++_}
-use lib.ListN.{length, take, drop, set, List·getD-append}
+use lib.ListN.{length, getD, take, drop, set, List·getD-append}
+use lib.Dec.{ltb}
 use lib.Seq.{take-all}
 use native.Mathlib.Omega.{arith}
 use Prim.Native.Nat.{ℕ, _*_, _≤_, _<_}
 use Rattle.runs.specs.Slots.{equal}
+use Rattle.image.specs.Bytes.{byteAt}
+use Rattle.image.specs.Nodes.{taskOf}
 use Rattle.image.specs.Judged.{Outcome, outcomeOf, outcome, numberOf}
 use Rattle.image.specs.Promise.{Judging}
 use Rattle.image.specs.declared.Refusal.{Refusal}
@@ -17,13 +20,16 @@ use Rattle.image.specs.declared.Verdict.the-variants.{Accepted, Refused}
 use Rattle.figures.specs.declared.Totals.{Totals}
 use Rattle.figures.specs.declared.Answer.{Answer}
 use Rattle.figures.specs.declared.Answer.the-variants.{Given, Refused as NotGiven}
-use Rattle.figures.specs.Answers.{Result, resultOf, answer}
+use Rattle.figures.specs.Answers.{Result, resultOf, periodOf}
+use Rattle.figures.specs.WholeRuns.{WholeRuns}
 use Rattle.figures.specs.Promise.{Demand3}
 use Rattle.edits.specs.declared.Edited.{Edited}
-use Rattle.edits.specs.Edits.{changeOf}
-use Rattle.edits.specs.Promise.{Editing, Leaves, Foresees}
-use Rattle.edits.proofs.Standing.{leaves}
-use Rattle.edits.proofs.Laws.{edit-is, change-is}
+use Rattle.edits.specs.declared.Found.{Found}
+use Rattle.edits.specs.declared.Found.the-variants.{At, Refused as NotFound}
+use Rattle.edits.specs.Edits.{found, changeFor, changeOf, imageWith}
+use Rattle.edits.specs.Promise.{Editable, Editing, Leaves, Previewing, PreviewGiven}
+use Rattle.edits.proofs.Finds.{when-found}
+use Rattle.edits.proofs.Laws.{edit-is, change-is, preview-is, leaves}
 use Rattle.graph.specs.declared.Verdict.{Verdict as TableVerdict}
 use Rattle.graph.specs.declared.Verdict.the-variants.{Accepted as TableAccepted, Refused as TableRefused}
 use Rattle.graph.specs.declared.Answer.{Answer as FinishesFound}
@@ -31,7 +37,7 @@ use Rattle.graph.specs.Table.{Result as FinishesResult, resultBy as finishesBy,
 use Rattle.graph.specs.Promise.{Equal as FinishesEqual}
 use Rattle.graph.proofs.Tables.{answer-given, finishes-length}
 use Rattle.graph.proofs.Promises.{finishing}
-use Rattle.linked.specs.Linked.{doneInto, refusedInto, judgedInto, judgeCall, told, beside, toldCall, WholeFigures, changedInto, editCall, WholeEdit, WholePreview, finishesInto, finishesCall, WholeFinishes}
+use Rattle.linked.specs.Linked.{doneInto, refusedInto, judgedInto, judgeCall, told, beside, toldCall, figuresCall, WholeFigures, changedInto, editCall, WholeEdit, previewCall, WholePreview, finishesInto, finishesCall, WholeFinishes}
 
 -- ---- the first places of a slice
 
@@ -132,28 +138,59 @@ module _ (s : List ℕ) (node lo hi : ℕ) (lent : List ℕ) where
   edit-call long r image e x q status found h =
       rw (le-ltb (length lent) 2 long, ← (e .image), ← (e .result), q) (ap (beside image) h)
 
-  -- what the caller finds of a possible edit
-  pub whole-edit : (status : ℕ) (image found : List ℕ) → editCall s node lo hi lent ≡ (status, image, found) → WholeEdit s node lo hi lent status image
+  -- what the caller finds
+  pub whole-edit : ((i : ℕ) → byteAt s i < 256) → (status : ℕ) (image said : List ℕ) → editCall s node lo hi lent ≡ (status, image, said)
+      → WholeEdit s node lo hi lent status image
   unfolding editCall
-  whole-edit status image found e d long =
-      let q = rw (le-ltb (length lent) 2 (omega (arith, long)), edit-is s node lo hi d, change-is s node lo hi d) at e in (
-        sym (ap (λ (x : ℕ × List ℕ × List ℕ). x .0) q),
-        subst (Leaves s (d .task) node lo hi) (ap (λ (x : ℕ × List ℕ × List ℕ). x .1) q) (leaves s node lo hi d),
-      )
+  whole-edit small status image said e =
+      record { possible = λ z. by-places (ltb (length lent) 2) (found s node lo hi) refl refl z; done = when-possible }
+    where
+      by-found : (f : Found) → found s node lo hi ≡ f → changedInto (changeFor f) lent .0 ≡ 0 → Editable s node lo hi
+      by-found (At place) q z = when-found s node lo hi place q
+      by-found (NotFound r place) q z = absurd (omega arith)
+
+      by-places : (short : Bool) (f : Found) → ltb (length lent) 2 ≡ short → found s node lo hi ≡ f → status ≡ 0 → Editable s node lo hi
+      by-places true f p q z = absurd (let w = ap (λ (x : ℕ × List ℕ × List ℕ). x .0) (rw p at e) in omega arith)
+      by-places false f p q z = by-found f q (ap (λ (x : ℕ × List ℕ × List ℕ). x .0) (rw (p, q) at e) ∙ z)
+
+      when-possible : (d : Editable s node lo hi) → 2 ≤ length lent → (status ≡ 0) × Leaves s (d .task) node lo hi image
+      when-possible d long =
+          let q = rw (le-ltb (length lent) 2 (omega (arith, long)), edit-is s node lo hi d, change-is s node lo hi d) at e in (
+            sym (ap (λ (x : ℕ × List ℕ × List ℕ). x .0) q),
+            subst (Leaves s (d .task) node lo hi) (ap (λ (x : ℕ × List ℕ × List ℕ). x .1) q) (leaves s node lo hi d small),
+          )
 
 -- ---- a preview: demand 3
 
-pub no-preview : (s : List ℕ) (node lo hi : ℕ) (before lent : List ℕ) (status : ℕ) (table found : List ℕ) → length lent < 3
-    → WholePreview s node lo hi before lent status table found
-no-preview s node lo hi before lent status table found short d room long = absurd (omega arith)
+module _ (s : List ℕ) (node lo hi : ℕ) (before lent : List ℕ) where
+  -- the figures of the edited image
+  fresh : Editable s node lo hi → figuresCall (imageWith s node lo hi) before lent ≡ previewCall s node lo hi before lent
+  fresh d = let p = preview-is s node lo hi d before in rw (p .0, p .1)
 
-pub told-preview : (s : List ℕ) (node lo hi : ℕ) (before lent : List ℕ) (a : Answer) (status : ℕ) (table found : List ℕ)
-    → Foresees s node lo hi before a table → told (resultOf a) lent ≡ (status, found) → WholePreview s node lo hi before lent status table found
-told-preview s node lo hi before lent a status table found f e d room long =
-    let q = f d (omega (arith, room)) in
-    let t : told (resultOf (Given (q .totals))) lent ≡ (status, found) = rw (q .given) at e in
-    let p : q .totals .tight ∷ q .totals .published ∷ q .totals .exits ∷ drop 3 lent ≡ found = ap (λ (x : ℕ × List ℕ). x .1) t in
-    (sym (ap (λ (x : ℕ × List ℕ). x .0) t), rw (← p) (q .demand3))
+  pub no-preview : length lent < 3 → WholePreview s node lo hi before lent 2 before lent
+  no-preview short = record {
+    possible = λ z. absurd (omega arith);
+    given = λ d room long. absurd (omega (arith, long));
+    fresh = λ d. told-short _ _ before lent short;
+  }
+
+  pub told-preview : (a : Answer) (status : ℕ) (table said : List ℕ) → Previewing s node lo hi before a table
+      → PreviewGiven s node lo hi before a table → told (resultOf a) lent ≡ (status, said)
+      → previewCall s node lo hi before lent ≡ (status, table, said) → WholePreview s node lo hi before lent status table said
+  told-preview a status table said p f e is =
+      record { possible = λ z. by-answer a refl (ap (λ (x : ℕ × List ℕ). x .0) e ∙ z); given = when-possible; fresh = λ d. fresh d ∙ is }
+    where
+      by-answer : (x : Answer) → a ≡ x → told (resultOf x) lent .0 ≡ 0 → Editable s node lo hi
+      by-answer (Given t) q z = p .possible t q .0
+      by-answer (NotGiven r place) q z = absurd (omega arith)
+
+      when-possible : (d : Editable s node lo hi) → periodOf (d .task) ≤ length before → 3 ≤ length lent → (status ≡ 0)
+          × WholeRuns (taskOf (imageWith s node lo hi) (d .task)) (getD said 0 0) (getD said 1 0) (getD said 2 0) table
+      when-possible d room long =
+          let q = f d (omega (arith, room)) in
+          let t : told (resultOf (Given (q .totals))) lent ≡ (status, said) = rw (q .given) at e in
+          let w : q .totals .tight ∷ q .totals .published ∷ q .totals .exits ∷ drop 3 lent ≡ said = ap (λ (x : ℕ × List ℕ). x .1) t in
+          (sym (ap (λ (x : ℕ × List ℕ). x .0) t), rw (← w) (q .demand3))
 
 -- ---- the finishes
 

@@ -69,21 +69,23 @@ unfoldable pub editCall : List ℕ → ℕ → ℕ → ℕ → List ℕ → ℕ 
 editCall image node lowest highest lent =
     cond (ltb (length lent) 2) (2, image, lent) (beside (imageAfter image node lowest highest) (changedInto (change image node lowest highest) lent))
 
--- a possible edit with places enough is done, and the image that the caller finds is such as `Leaves` says
-abbrev pub WholeEdit : List ℕ → ℕ → ℕ → ℕ → List ℕ → ℕ → List ℕ → Type 0
-WholeEdit image node lowest highest lent status after = (e : Editable image node lowest highest) → 2 ≤ length lent
-    → (status ≡ 0) × Leaves image (e .task) node lowest highest after
+-- status 0 if and only if the edit is possible and there are places enough; the image that the caller then finds is such as `Leaves` says
+pub record WholeEdit (image : List ℕ) (node lowest highest : ℕ) (lent : List ℕ) (status : ℕ) (after : List ℕ) : Type 0 where
+  pub possible : status ≡ 0 → Editable image node lowest highest
+  pub done : (e : Editable image node lowest highest) → 2 ≤ length lent → (status ≡ 0) × Leaves image (e .task) node lowest highest after
 
 -- a preview: the status, the table and the answer at exit, as of figures
 abbrev pub previewCall : List ℕ → ℕ → ℕ → ℕ → List ℕ → List ℕ → ℕ × List ℕ × List ℕ
 previewCall image node lowest highest table lent =
     toldCall (previewOf image node lowest highest table) (previewTable image node lowest highest table) table lent
 
--- with places enough the preview of a possible edit is given, and demand 3 holds of the edited image and the numbers that the caller finds
-abbrev pub WholePreview : List ℕ → ℕ → ℕ → ℕ → List ℕ → List ℕ → ℕ → List ℕ → List ℕ → Type 0
-WholePreview image node lowest highest before lent status table found = (e : Editable image node lowest highest)
-    → periodOf (e .task) ≤ length before → 3 ≤ length lent
-    → (status ≡ 0) × WholeRuns (taskOf (imageWith image node lowest highest) (e .task)) (getD found 0 0) (getD found 1 0) (getD found 2 0) table
+-- status 0 if and only if the edit is possible and there are places enough; then demand 3 holds of the edited image and the numbers that the
+-- caller finds. Whatever the places, a possible edit's preview leaves what the figures of the edited image would
+pub record WholePreview (image : List ℕ) (node lowest highest : ℕ) (before lent : List ℕ) (status : ℕ) (table found : List ℕ) : Type 0 where
+  pub possible : status ≡ 0 → Editable image node lowest highest
+  pub given : (e : Editable image node lowest highest) → periodOf (e .task) ≤ length before → 3 ≤ length lent → (status ≡ 0)
+      × WholeRuns (taskOf (imageWith image node lowest highest) (e .task)) (getD found 0 0) (getD found 1 0) (getD found 2 0) table
+  pub fresh : Editable image node lowest highest → figuresCall (imageWith image node lowest highest) before lent ≡ (status, table, found)
 
 -- finishes: 64 numbers, and 0 and 0, or the number and the place of a refusal; later places keep their contents
 abbrev pub finishesInto : FinishesResult → List ℕ → List ℕ → ℕ × List ℕ × List ℕ

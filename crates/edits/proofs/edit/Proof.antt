@@ -1,5 +1,6 @@
 -- What `find` found decides: refused, no byte is set; else the four bytes are.
 use borrow.Author.Needs.{needs}
+use native.Mathlib.Omega.{arith}
 use Rattle.edits.proofs.Promises.{edit-refused, refused-done, edit-done, done-done}
 use Rattle.edits.proofs.edit.Statement.{statement}
 use Rattle.edits.proofs.edit.Tie as tie
@@ -41,7 +42,8 @@ returns-2 c =
     let v = c .before .before .before .before .before .found2 .given in
     let p = c .before .before .set-durations in (
       edit-done (a .image .now) (a .node) (a .lowest) (a .highest) (f .result) (f .ensures) (v .0 .0) (v .1) (p .last .0) (p .ensures),
-      done-done (a .image .now) (a .node) (a .lowest) (a .highest) (f .result) (f .ensures) (v .0 .0) (v .1) (p .last .0) (p .ensures),
+      done-done (a .image .now) (a .node) (a .lowest) (a .highest) (f .result) (f .ensures) (v .0 .0) (v .1) (p .last .0) (p .ensures)
+          (λ i. omega (arith, c .before .before .before .before .before .before .before .before .before .slice-known .given i)),
     )
 
 pub edit-spec : {M : Type 1} → statement M

@@ -9,8 +9,11 @@ use Rattle.linked.proofs.slotfigures_edit.Tie as tie
 returns : tie.Need-returns
 returns c =
     let a = c .before .before .before .args in
-    let is = edit-short (a .image .now) (a .node) (a .lowest) (a .highest) (a .answer .now) (omega arith) in
-    (is, whole-edit (a .image .now) (a .node) (a .lowest) (a .highest) (a .answer .now) _ _ _ is)
+    let is = edit-short (a .image .now) (a .node) (a .lowest) (a .highest) (a .answer .now) (omega arith) in (
+      is,
+      whole-edit (a .image .now) (a .node) (a .lowest) (a .highest) (a .answer .now)
+          (λ i. omega (arith, c .before .before .slice-known .given i)) _ _ _ is,
+    )
 
 edit-requires : tie.Need-edit-requires
 edit-requires c κs = search needs
@@ -40,8 +43,11 @@ returns-2 c =
     let p = c .before .before .done in
     let is =
     edit-call (a .image .now) (a .node) (a .lowest) (a .highest) (a .answer .now) (omega arith) (e .result) (e .last .0) (e .ensures .0)
-    Done (c .before .before .before .before .enum-told .given .1) (p .result) (p .last .0) (p .ensures) in
-    (is, whole-edit (a .image .now) (a .node) (a .lowest) (a .highest) (a .answer .now) _ _ _ is)
+    Done (c .before .before .before .before .enum-told .given .1) (p .result) (p .last .0) (p .ensures) in (
+      is,
+      whole-edit (a .image .now) (a .node) (a .lowest) (a .highest) (a .answer .now)
+          (λ i. omega (arith, c .before .before .before .before .before .before .before .before .before .before .before .before .slice-known .given i)) _ _ _ is,
+    )
 
 same-length-3 : tie.Need-same-length-3
 same-length-3 c = search needs
@@ -57,8 +63,11 @@ returns-3 c =
     let p = c .before .before .refuse in
     let is =
     edit-call (a .image .now) (a .node) (a .lowest) (a .highest) (a .answer .now) (omega arith) (e .result) (e .last .0) (e .ensures .0)
-    (Refused (v .0 .0) (v .0 .1 .0)) (v .1) (p .result) (p .last .0) (p .ensures) in
-    (is, whole-edit (a .image .now) (a .node) (a .lowest) (a .highest) (a .answer .now) _ _ _ is)
+    (Refused (v .0 .0) (v .0 .1 .0)) (v .1) (p .result) (p .last .0) (p .ensures) in (
+      is,
+      whole-edit (a .image .now) (a .node) (a .lowest) (a .highest) (a .answer .now)
+          (λ i. omega (arith, c .before .before .before .before .before .before .before .before .before .before .before .before .before .slice-known .given i)) _ _ _ is,
+    )
 
 pub slotfigures-edit-spec : {M : Type 1} → statement M
 slotfigures-edit-spec =

@@ -8,10 +8,8 @@ use Rattle.linked.proofs.slotfigures_preview.Tie as tie
 
 returns : tie.Need-returns
 returns c =
-    let a = c .before .before .before .before .args in (
-      told-short _ _ (a .table .now) (a .answer .now) (omega arith),
-      no-preview (a .image .now) (a .node) (a .lowest) (a .highest) (a .table .now) (a .answer .now) 2 (a .table .now) (a .answer .now) (omega arith),
-    )
+    let a = c .before .before .before .before .args in
+    (told-short _ _ (a .table .now) (a .answer .now) (omega arith), no-preview (a .image .now) (a .node) (a .lowest) (a .highest) (a .table .now) (a .answer .now) (omega arith))
 
 preview-requires : tie.Need-preview-requires
 preview-requires c κs = search needs
@@ -30,11 +28,13 @@ returns-2 c =
     let a = c .before .before .before .before .before .before .before .before .before .before .before .before .args in
     let g = c .before .before .before .before .before .before .preview in
     let t = c .before .before .tell in
-    let f = g .last .1 .1 .1 .1 .0 in (
-      told-call (previewOf (a .image .now) (a .node) (a .lowest) (a .highest) (a .table .now)) (previewTable (a .image .now) (a .node) (a .lowest) (a .highest) (a .table .now))
-          (a .table .now) (a .answer .now) (omega arith) (g .result) f (g .ensures .0 .result) (g .ensures .0 .table) (t .result) (t .last .0) (t .ensures),
+    let f = g .last .1 .1 .1 .1 .0 in
+    let is =
+    told-call (previewOf (a .image .now) (a .node) (a .lowest) (a .highest) (a .table .now)) (previewTable (a .image .now) (a .node) (a .lowest) (a .highest) (a .table .now))
+    (a .table .now) (a .answer .now) (omega arith) (g .result) f (g .ensures .0 .result) (g .ensures .0 .table) (t .result) (t .last .0) (t .ensures) in (
+      is,
       told-preview (a .image .now) (a .node) (a .lowest) (a .highest) (a .table .now) (a .answer .now) (g .result) (t .result) f (t .last .0)
-          (g .ensures .1) (t .ensures),
+          (g .ensures .0) (g .ensures .1) (t .ensures) is,
     )
 
 pub slotfigures-preview-spec : {M : Type 1} → statement M
