@@ -36,54 +36,54 @@ module _ (s : List ℕ) (node lo hi : ℕ) (d : Editable s node lo hi) where
       × (previewTable s node lo hi table ≡ tableAfter (imageWith s node lo hi) table)
   preview-is table = let f = found-when s node lo hi d in (rw f, rw f)
 
-  -- s is a list of bytes
-  module _ (small : (i : ℕ) → byteAt s i < 256) where
-    -- the old durations are in range, so that the edit can be undone, and then restores the bytes
-    module _ (l h : ℕ) (was : nodeAt s node ≡ Node.plain l h) where
-      tag : byteAt s (placeOf s node) ≡ 3
-      tag = tag-of s node (d .task) (d .block)
+-- of a list of bytes
+module _ (s : List ℕ) (node lo hi : ℕ) (d : Editable s node lo hi) (small : (i : ℕ) → byteAt s i < 256) where
+  -- the old durations are in range, so that the edit can be undone, and then restores the bytes
+  module _ (l h : ℕ) (was : nodeAt s node ≡ Node.plain l h) where
+    tag : byteAt s (placeOf s node) ≡ 3
+    tag = tag-of s node (d .task) (d .block)
 
-      old : Node.plain (wordAt s (placeOf s node + 3)) (wordAt s (placeOf s node + 3 + 2)) ≡ Node.plain l h
-      old = sym (node-was s node tag) ∙ was
+    old : Node.plain (wordAt s (placeOf s node + 3)) (wordAt s (placeOf s node + 3 + 2)) ≡ Node.plain l h
+    old = sym (node-was s node tag) ∙ was
 
-      low : l ≡ wordAt s (placeOf s node + 3)
-      low = cc old
+    low : l ≡ wordAt s (placeOf s node + 3)
+    low = cc old
 
-      high : h ≡ wordAt s (placeOf s node + 3 + 2)
-      high = cc old
+    high : h ≡ wordAt s (placeOf s node + 3 + 2)
+    high = cc old
 
-      old-range : plainOk l h ≡ true
-      unfolding valueOk
-      old-range = rw (low, high) (rw tag at (d .accepting .complete .passed (node + 2) (omega (arith, d .block .exists)) .value))
+    old-range : plainOk l h ≡ true
+    unfolding valueOk
+    old-range = rw (low, high) (rw tag at (d .accepting .complete .passed (node + 2) (omega (arith, d .block .exists)) .value))
 
-      undoable : Editable (imageWith s node lo hi) node l h
-      undoable = record {
-        task = d .task;
-        accepting = still-accepting s node lo hi d;
-        block = record { exists = d .block .exists; plain = (lo, hi, node-same s node lo hi d) };
-        durations = durations-kept l h old-range;
-      }
-
-      back : imageWith (imageWith s node lo hi) node l h ≡ s
-      back =
-          rw (place-same s node lo hi d (node + 2), low, high)
-          (written-back s (placeOf s node + 3) lo hi (inside s node lo hi d) small)
-
-      pub undone : Restores s node l h (imageWith s node lo hi)
-      undone = record { possible = undoable; bytes = rw (found-when (imageWith s node lo hi) node l h undoable) back }
-
-    pub leaves : Leaves s (d .task) node lo hi (imageWith s node lo hi)
-    leaves = record {
-      accepted = still-accepted s node lo hi d;
-      long = long s node lo hi d;
-      outside = λ i. ⊎-elim (λ l. written-before s (placeOf s node + 3) lo hi i (omega (arith, l))) (λ l. written-behind s (placeOf s node + 3) lo hi i (omega (arith, l)));
-      says = node-same s node lo hi d;
-      others = λ n l other. node-other s node lo hi d n (omega (arith, l)) (λ q. other (omega (arith, q)));
-      starts = starts-same s node lo hi d;
-      deep = λ n l. sym (weight-same s node lo hi d n (omega (arith, l, d .accepting .last)) .deep);
-      visited = λ n l. sym (weight-same s node lo hi d n (omega (arith, l, d .accepting .last)) .long);
-      back = undone;
+    undoable : Editable (imageWith s node lo hi) node l h
+    undoable = record {
+      task = d .task;
+      accepting = still-accepting s node lo hi d;
+      block = record { exists = d .block .exists; plain = (lo, hi, node-same s node lo hi d) };
+      durations = durations-kept l h old-range;
     }
+
+    back : imageWith (imageWith s node lo hi) node l h ≡ s
+    back =
+        rw (place-same s node lo hi d (node + 2), low, high)
+        (written-back s (placeOf s node + 3) lo hi (inside s node lo hi d) small)
+
+    pub undone : Restores s node l h (imageWith s node lo hi)
+    undone = record { possible = undoable; bytes = edit-is (imageWith s node lo hi) node l h undoable ∙ back }
+
+  pub leaves : Leaves s (d .task) node lo hi (imageWith s node lo hi)
+  leaves = record {
+    accepted = still-accepted s node lo hi d;
+    long = long s node lo hi d;
+    outside = λ i. ⊎-elim (λ l. written-before s (placeOf s node + 3) lo hi i (omega (arith, l))) (λ l. written-behind s (placeOf s node + 3) lo hi i (omega (arith, l)));
+    says = node-same s node lo hi d;
+    others = λ n l other. node-other s node lo hi d n (omega (arith, l)) (λ q. other (omega (arith, q)));
+    starts = starts-same s node lo hi d;
+    deep = λ n l. sym (weight-same s node lo hi d n (omega (arith, l, d .accepting .last)) .deep);
+    visited = λ n l. sym (weight-same s node lo hi d n (omega (arith, l, d .accepting .last)) .long);
+    back = undone;
+  }
 
 -- calls one after another: `edit`, `figures` of what it left, and `preview`
 module _ (s : List ℕ) (node lo hi : ℕ) (before : List ℕ) where

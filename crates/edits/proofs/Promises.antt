@@ -158,7 +158,7 @@ module _ (s : List ℕ) (node lo hi : ℕ) (f : Found) (h : Finding s node lo hi
         table = rw at-place (rw there at (g .table));
         because = only-table;
         whenever = when-table;
-        possible = λ t q. let d = when-found s node lo hi place at-place in (d, enough d t q);
+        possible = λ t q. let d = when-found s node lo hi place at-place in (d, omega (arith, enough d t q));
       }
 
       -- demands 3 and 2 of the copy are those of the edited image
