@@ -143,7 +143,7 @@ module _ (s : List ℕ) (node lo hi : ℕ) (lent : List ℕ) where
       → WholeEdit s node lo hi lent status image
   unfolding editCall
   whole-edit small status image said e =
-      record { possible = λ z. by-places (ltb (length lent) 2) (found s node lo hi) refl refl z; done = when-possible }
+      record { possible = λ z. by-places (ltb (length lent) 2) (found s node lo hi) refl refl z; done = λ d long. when-possible d (omega (arith, long)) }
     where
       by-found : (f : Found) → found s node lo hi ≡ f → changedInto (changeFor f) lent .0 ≡ 0 → Editable s node lo hi
       by-found (At place) q z = when-found s node lo hi place q
@@ -155,7 +155,7 @@ module _ (s : List ℕ) (node lo hi : ℕ) (lent : List ℕ) where
 
       when-possible : (d : Editable s node lo hi) → 2 ≤ length lent → (status ≡ 0) × Leaves s (d .task) node lo hi image
       when-possible d long =
-          let q = rw (le-ltb (length lent) 2 (omega (arith, long)), edit-is s node lo hi d, change-is s node lo hi d) at e in (
+          let q = rw (le-ltb (length lent) 2 long, edit-is s node lo hi d, change-is s node lo hi d) at e in (
             sym (ap (λ (x : ℕ × List ℕ × List ℕ). x .0) q),
             subst (Leaves s (d .task) node lo hi) (ap (λ (x : ℕ × List ℕ × List ℕ). x .1) q) (leaves s node lo hi d small),
           )
@@ -178,7 +178,7 @@ module _ (s : List ℕ) (node lo hi : ℕ) (before lent : List ℕ) where
       → PreviewGiven s node lo hi before a table → told (resultOf a) lent ≡ (status, said)
       → previewCall s node lo hi before lent ≡ (status, table, said) → WholePreview s node lo hi before lent status table said
   told-preview a status table said p f e is =
-      record { possible = λ z. by-answer a refl (ap (λ (x : ℕ × List ℕ). x .0) e ∙ z); given = when-possible; fresh = λ d. fresh d ∙ is }
+      record { possible = λ z. by-answer a refl (ap (λ (x : ℕ × List ℕ). x .0) e ∙ z); given = λ d room long. when-possible d (omega (arith, room)) (omega (arith, long)); fresh = λ d. fresh d ∙ is }
     where
       by-answer : (x : Answer) → a ≡ x → told (resultOf x) lent .0 ≡ 0 → Editable s node lo hi
       by-answer (Given t) q z = p .possible t q .0
@@ -187,7 +187,7 @@ module _ (s : List ℕ) (node lo hi : ℕ) (before lent : List ℕ) where
       when-possible : (d : Editable s node lo hi) → periodOf (d .task) ≤ length before → 3 ≤ length lent → (status ≡ 0)
           × WholeRuns (taskOf (imageWith s node lo hi) (d .task)) (getD said 0 0) (getD said 1 0) (getD said 2 0) table
       when-possible d room long =
-          let q = f d (omega (arith, room)) in
+          let q = f d room in
           let t : told (resultOf (Given (q .totals))) lent ≡ (status, said) = rw (q .given) at e in
           let w : q .totals .tight ∷ q .totals .published ∷ q .totals .exits ∷ drop 3 lent ≡ said = ap (λ (x : ℕ × List ℕ). x .1) t in
           (sym (ap (λ (x : ℕ × List ℕ). x .0) t), rw (← w) (q .demand3))
