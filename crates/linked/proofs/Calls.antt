@@ -1,5 +1,5 @@
 -- What each return of the calls leaves is what the definitions say.
-use borrow.Author.Tests.{lt-ltb, le-ltb}
+use borrow.Author.Tests.{lt-ltb, le-ltb, ltb-false}
 use mathlib.Core.Path.{_≡_, refl, sym, _∙_, ap, subst}
 use mathlib.Core.Bool.{Bool, true, false, cond}
 use mathlib.Core.List.{List, [], _∷_, _++_}
@@ -149,9 +149,10 @@ module _ (s : List ℕ) (node lo hi : ℕ) (lent : List ℕ) where
       by-found (At place) q z = when-found s node lo hi place q
       by-found (NotFound r place) q z = absurd (omega arith)
 
-      by-places : (short : Bool) (f : Found) → ltb (length lent) 2 ≡ short → found s node lo hi ≡ f → status ≡ 0 → Editable s node lo hi
+      by-places : (short : Bool) (f : Found) → ltb (length lent) 2 ≡ short → found s node lo hi ≡ f → status ≡ 0
+          → Editable s node lo hi × (2 ≤ length lent)
       by-places true f p q z = absurd (let w = ap (λ (x : ℕ × List ℕ × List ℕ). x .0) (rw p at e) in omega arith)
-      by-places false f p q z = by-found f q (ap (λ (x : ℕ × List ℕ × List ℕ). x .0) (rw (p, q) at e) ∙ z)
+      by-places false f p q z = (by-found f q (ap (λ (x : ℕ × List ℕ × List ℕ). x .0) (rw (p, q) at e) ∙ z), omega (arith, ltb-false (length lent) 2 p))
 
       when-possible : (d : Editable s node lo hi) → 2 ≤ length lent → (status ≡ 0) × Leaves s (d .task) node lo hi image
       when-possible d long =
@@ -174,14 +175,15 @@ module _ (s : List ℕ) (node lo hi : ℕ) (before lent : List ℕ) where
     fresh = λ d. told-short _ _ before lent short;
   }
 
-  pub told-preview : (a : Answer) (status : ℕ) (table said : List ℕ) → Previewing s node lo hi before a table
+  pub told-preview : 3 ≤ length lent → (a : Answer) (status : ℕ) (table said : List ℕ) → Previewing s node lo hi before a table
       → PreviewGiven s node lo hi before a table → told (resultOf a) lent ≡ (status, said)
       → previewCall s node lo hi before lent ≡ (status, table, said) → WholePreview s node lo hi before lent status table said
-  told-preview a status table said p f e is =
+  told-preview enough a status table said p f e is =
       record { possible = λ z. by-answer a refl (ap (λ (x : ℕ × List ℕ). x .0) e ∙ z); given = λ d room long. when-possible d (omega (arith, room)) (omega (arith, long)); fresh = λ d. fresh d ∙ is }
     where
-      by-answer : (x : Answer) → a ≡ x → told (resultOf x) lent .0 ≡ 0 → Editable s node lo hi
-      by-answer (Given t) q z = p .possible t q .0
+      by-answer : (x : Answer) → a ≡ x → told (resultOf x) lent .0 ≡ 0
+          → (d : Editable s node lo hi) × (periodOf (d .task) ≤ length before) × (3 ≤ length lent)
+      by-answer (Given t) q z = let w = p .possible t q in (w .0, omega (arith, w .1), omega (arith, enough))
       by-answer (NotGiven r place) q z = absurd (omega arith)
 
       when-possible : (d : Editable s node lo hi) → periodOf (d .task) ≤ length before → 3 ≤ length lent → (status ≡ 0)

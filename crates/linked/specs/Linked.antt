@@ -71,7 +71,7 @@ editCall image node lowest highest lent =
 
 -- status 0 if and only if the edit is possible and there are places enough; the image that the caller then finds is such as `Leaves` says
 pub record WholeEdit (image : List ℕ) (node lowest highest : ℕ) (lent : List ℕ) (status : ℕ) (after : List ℕ) : Type 0 where
-  pub possible : status ≡ 0 → Editable image node lowest highest
+  pub possible : status ≡ 0 → Editable image node lowest highest × (2 ≤ length lent)
   pub done : (e : Editable image node lowest highest) → 2 ≤ length lent → (status ≡ 0) × Leaves image (e .task) node lowest highest after
 
 -- a preview: the status, the table and the answer at exit, as of figures
@@ -82,7 +82,7 @@ previewCall image node lowest highest table lent =
 -- status 0 if and only if the edit is possible and there are places enough; then demand 3 holds of the edited image and the numbers that the
 -- caller finds. Whatever the places, a possible edit's preview leaves what the figures of the edited image would
 pub record WholePreview (image : List ℕ) (node lowest highest : ℕ) (before lent : List ℕ) (status : ℕ) (table found : List ℕ) : Type 0 where
-  pub possible : status ≡ 0 → Editable image node lowest highest
+  pub possible : status ≡ 0 → (e : Editable image node lowest highest) × (periodOf (e .task) ≤ length before) × (3 ≤ length lent)
   pub given : (e : Editable image node lowest highest) → periodOf (e .task) ≤ length before → 3 ≤ length lent → (status ≡ 0)
       × WholeRuns (taskOf (imageWith image node lowest highest) (e .task)) (getD found 0 0) (getD found 1 0) (getD found 2 0) table
   pub fresh : Editable image node lowest highest → figuresCall (imageWith image node lowest highest) before lent ≡ (status, table, found)

@@ -33,7 +33,7 @@ returns-2 c =
     told-call (previewOf (a .image .now) (a .node) (a .lowest) (a .highest) (a .table .now)) (previewTable (a .image .now) (a .node) (a .lowest) (a .highest) (a .table .now))
     (a .table .now) (a .answer .now) (omega arith) (g .result) f (g .ensures .0 .result) (g .ensures .0 .table) (t .result) (t .last .0) (t .ensures) in (
       is,
-      told-preview (a .image .now) (a .node) (a .lowest) (a .highest) (a .table .now) (a .answer .now) (g .result) (t .result) f (t .last .0)
+      told-preview (a .image .now) (a .node) (a .lowest) (a .highest) (a .table .now) (a .answer .now) (omega arith) (g .result) (t .result) f (t .last .0)
           (g .ensures .0) (g .ensures .1) (t .ensures) is,
     )
 
