@@ -12,6 +12,7 @@ ghost use mathlib.Core.Path.{_≡_};
 ghost use mathlib.Core.List.{_++_};
 ghost use Prim.Native.Nat.{_+_, _≤_};
 ghost use lib.ListN.{length, drop};
+ghost use Rattle.image.specs.Conditions.{longestImage};
 ghost use Rattle.figures.specs.Promise.{Equal, Demand3, Demand2};
 ghost use Rattle.edits.specs.Edits.{withDurations};
 ghost use Rattle.edits.specs.Promise.{Editing, EditDone, Previewing, PreviewGiven};
@@ -20,7 +21,7 @@ use figures::Answer;
 use image::Refusal;
 use image::Verdict;
 
-// No accepted image has more bytes.
+// No accepted image has more bytes (`longestImage`).
 const LONGEST: usize = 9197;
 
 // The edit is done, or why not and at which place.
@@ -101,7 +102,7 @@ fn fill(copy: &mut [u8], image: &[u8])
 
 // The figures of a copy of the image on which the durations of the block at a place are set.
 fn on_copy(image: &[u8], at: usize, lowest: usize, highest: usize, table: &mut [u64]) -> Answer
-    requires { ⌜ Room (length (now image)) at lowest highest × (length (now image) ≤ 9197) ⌝ }
+    requires { ⌜ Room (length (now image)) at lowest highest × (length (now image) ≤ longestImage) ⌝ }
     ensures equality { λ r. ⌜ Equal (withDurations (now (image .entry)) (at + 3) lowest highest) (now (table .entry)) r (now (table .exit)) ⌝ }
     ensures demand3 { λ r. ⌜ Demand3 (withDurations (now (image .entry)) (at + 3) lowest highest) r (now (table .exit)) ⌝ }
     ensures demand2 { λ r. ⌜ Demand2 (withDurations (now (image .entry)) (at + 3) lowest highest) r ⌝ }

@@ -1,5 +1,4 @@
--- "a valid image has at most 9,197, since node 0 must be a block" (document 01): 6 bytes for the bus, 259 for the starts, 7 for node 0
--- and 35 for each of 255 more nodes.
+-- "a valid image has at most 9,197, since node 0 must be a block" (document 01).
 use mathlib.Core.Path.{_≡_, _∙_}
 use mathlib.Core.Bool.{true}
 use mathlib.Core.List.{List}
@@ -12,7 +11,7 @@ use Prim.Native.Nat.{ℕ, zero, suc, _+_, _*_, _/_, _%_, _≤_}
 use Rattle.image.specs.Bytes.{wordAt}
 use Rattle.image.specs.Fields.{within, lengthOk, childrenOk}
 use Rattle.image.specs.Nodes.{fieldAt}
-use Rattle.image.specs.Conditions.{tagAt, lengthAt, bodyAt, GoodField, Passed, Accepting}
+use Rattle.image.specs.Conditions.{tagAt, lengthAt, bodyAt, GoodField, Passed, Accepting, longestImage}
 use Rattle.image.specs.declared.Task.{Task}
 use Rattle.image.proofs.Numbers.{both, is-within}
 use Rattle.image.proofs.Lists.{names-below}
@@ -65,7 +64,7 @@ module _ (s : List ℕ) where
       let m : lengthAt s (j + 3) ≤ 32 = rw q (node-most (suc j) (p (suc j + 2) (omega arith))) in
       rw (e, next-at s (j + 3)) (omega (arith, ends-most j (fewer s (j + 3) (suc j + 3) (omega arith) p)))
 
-  pub longest : (t : Task) → Accepting s t → length s ≤ 9197
+  pub longest : (t : Task) → Accepting s t → length s ≤ longestImage
   longest t a =
       let n : t .nodes + 2 ≡ t .entry + 3 = omega (arith, a .last) in
       let p = rw n at (a .complete .passed) in

@@ -79,3 +79,8 @@ pub record Accepting (s : List ℕ) (t : Task) : Type 0 where
   pub short : visits (treeAt s (t .entry)) ≤ 100000
   pub bus : t .bus ≡ busOf s
   pub starts : t .starts ≡ wordAt s 7
+
+-- "a valid image has at most 9,197": 6 bytes for the bus, 259 for the starts, 7 for node 0, which is a block, and 35 for each of 255 more nodes
+-- (`longest` of proofs/Longest.antt)
+abbrev pub longestImage : ℕ
+longestImage = 9197

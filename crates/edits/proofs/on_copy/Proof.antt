@@ -6,6 +6,7 @@ use lib.ListN.{length, take}
 use lib.Seq.{length-take-le}
 use native.Mathlib.Omega.{arith}
 use Prim.Native.Nat.{_+_}
+use Rattle.image.specs.Conditions.{longestImage}
 use Rattle.edits.specs.Edits.{withDurations}
 use Rattle.edits.proofs.Written.{written-copy}
 use Rattle.edits.proofs.on_copy.Statement.{statement}
@@ -23,7 +24,7 @@ slice-aggregate-set-durations c = search needs
 set-durations-requires : tie.Need-set-durations-requires
 set-durations-requires c κs =
     let r = c .before .before .before .before .before .before .pre .0 in
-    let long : length (c .before .before .fill .last .0) ≡ 9197 = search needs in
+    let long : length (c .before .before .fill .last .0) ≡ longestImage = search needs in
     record { inside = omega arith; low = omega (arith, r .low, r .high); high = omega (arith, r .high) }
 
 array-share-prefix-copy : tie.Need-array-share-prefix-copy
@@ -31,7 +32,7 @@ array-share-prefix-copy c = search needs
 
 slice-aggregate-figures : tie.Need-slice-aggregate-figures
 slice-aggregate-figures c =
-    let long : length (c .before .before .set-durations .last .0) ≡ 9197 = search needs in
+    let long : length (c .before .before .set-durations .last .0) ≡ longestImage = search needs in
     sym (length-take-le _ (c .before .before .set-durations .last .0) (omega arith))
 
 figures-requires : tie.Need-figures-requires
