@@ -98,7 +98,7 @@ bus-row s g =
     let w : wordAt s 1 ≡ 3 = eqb-true (wordAt s 1) 3 (rw t at (g .len)) in
     (rw t at (g .value), rw w)
 
-ranges : (b : Bus) → busOk (b .cores) (b .slot) (b .core) ≡ true → Ranges b
+pub ranges : (b : Bus) → busOk (b .cores) (b .slot) (b .core) ≡ true → Ranges b
 unfolding busOk
 ranges b e =
     let n = b .cores in

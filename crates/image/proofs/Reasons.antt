@@ -11,10 +11,10 @@ use borrow.Author.Tests.{lt-ltb, le-ltb, lt-leb}
 use Rattle.runs.specs.Nodes.{depth, visits}
 use Rattle.image.specs.Fields.{fieldOf}
 use Rattle.image.specs.Nodes.{fieldAt, treeAt}
-use Rattle.image.specs.Judged.{scan, wholeOf, judged}
+use Rattle.image.specs.Judged.{numberOf, scan, wholeOf, judged}
 use Rattle.image.specs.Conditions.{lengthAt, bodyAt, Passed, Complete, Condition, head-cut, wrong-tag, one-more, wrong-length, body-cut, wrong-value, not-below, no-node, too-deep, too-long, Accepting}
 use Rattle.image.specs.declared.Refusal.{Refusal}
-use Rattle.image.specs.declared.Refusal.the-variants.{Cut, Tag, Full, Length, Value, Forward, Unfinished, Deep, Long, Table, Block}
+use Rattle.image.specs.declared.Refusal.the-variants.{Cut, Tag, Full, Length, Value, Forward, Unfinished, Deep, Long}
 use Rattle.image.specs.declared.fields.Judgement.the-variants.{Bad}
 use Rattle.image.specs.declared.fields.End.the-variants.{Whole}
 use Rattle.image.specs.declared.Task.{Task}
@@ -85,12 +85,21 @@ module _ (s : List ℕ) where
         sym (a .starts),
       )
 
-  -- judging never answers `table`, nor `block`
-  pub never-table : (place : ℕ) → judged s ≡ Refused Table place → ⊥
-  never-table place e = elim (when-refused Table place e) [ ]
-
-  pub never-block : (place : ℕ) → judged s ≡ Refused Block place → ⊥
-  never-block place e = elim (when-refused Block place e) [ ]
+  -- judging answers the first nine of the list
+  pub first-nine : (r : Refusal) (place : ℕ) → judged s ≡ Refused r place → numberOf r ≤ 9
+  first-nine r place e = nine (when-refused r place e)
+    where
+      nine : {r′ : Refusal} {place′ : ℕ} → Condition s r′ place′ → numberOf r′ ≤ 9
+      nine (head-cut k p l h) = omega arith
+      nine (wrong-tag k p h t) = omega arith
+      nine (one-more p h t) = omega arith
+      nine (wrong-length k p h t f l) = omega arith
+      nine (body-cut k p h t f l b) = omega arith
+      nine (wrong-value k p h t f l b v) = omega arith
+      nine (not-below k p h t f l b v c) = omega arith
+      nine (no-node n c h) = omega arith
+      nine (too-deep n c h) = omega arith
+      nine (too-long n c h v) = omega arith
 
   -- "The first that holds is returned; an image is accepted when none holds."
   pub accepted-if-none : ((r : Refusal) (place : ℕ) → Condition s r place → ⊥) → (t : Task) × (judged s ≡ Accepted t)

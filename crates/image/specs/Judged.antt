@@ -11,7 +11,7 @@ use Rattle.image.specs.Bytes.{wordAt}
 use Rattle.image.specs.Fields.{fieldOf, busOf}
 use Rattle.image.specs.Nodes.{treeAt, taskOf}
 use Rattle.image.specs.declared.Refusal.{Refusal}
-use Rattle.image.specs.declared.Refusal.the-variants.{Cut, Tag, Full, Length, Value, Forward, Unfinished, Deep, Long, Table, Block}
+use Rattle.image.specs.declared.Refusal.the-variants.{Cut, Tag, Full, Length, Value, Forward, Unfinished, Deep, Long, Table, Register, Busy, Block}
 use Rattle.image.specs.declared.fields.Judgement.{Judgement}
 use Rattle.image.specs.declared.fields.Judgement.the-variants.{Good, Bad}
 use Rattle.image.specs.declared.fields.End.{End}
@@ -31,6 +31,8 @@ numberOf Unfinished = 7
 numberOf Deep = 8
 numberOf Long = 9
 numberOf Table = 10
+numberOf Register = 15
+numberOf Busy = 16
 numberOf Block = 19
 
 -- "Word"
@@ -45,6 +47,8 @@ wordOf Unfinished = "unfinished"
 wordOf Deep = "deep"
 wordOf Long = "long"
 wordOf Table = "table"
+wordOf Register = "register"
+wordOf Busy = "busy"
 wordOf Block = "block"
 
 abbrev pub pickEnd : Bool → End → End → End

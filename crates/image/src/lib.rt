@@ -26,8 +26,8 @@ pub mod read;
 pub mod rows;
 mod weigh;
 
-// Why an image gets no answer: the words of the papers' tables. Judging answers the first nine; `Table` is for a caller that lends a table,
-// `Block` for one that edits a block (19, document 02).
+// Why a caller gets no answer: the words of the papers' tables, in one list. Judging answers the first nine; `Table` is for a caller that lends
+// a table, and of document 02 `Register` and `Busy` for calls to the arbiter (15, 16), `Block` for one that edits a block (19).
 pub enum Refusal {
     Cut,
     Tag,
@@ -39,6 +39,8 @@ pub enum Refusal {
     Deep,
     Long,
     Table,
+    Register,
+    Busy,
     Block,
 }
 
@@ -76,6 +78,8 @@ pub fn number(r: Refusal) -> usize
         Refusal::Deep => 8,
         Refusal::Long => 9,
         Refusal::Table => 10,
+        Refusal::Register => 15,
+        Refusal::Busy => 16,
         Refusal::Block => 19,
     }
 }

@@ -57,8 +57,8 @@ pub fn length_ok(tag: usize, len: usize) -> bool
     }
 }
 
-fn bus_ok(cores: usize, slot: usize, core: usize) -> bool
-    requires { ⌜ (cores < 256) × (slot < 256) ⌝ }
+// Are these numbers of a bus in the ranges of tag 1? Any numbers may be asked about: a reset's of the arbiter are its caller's.
+pub fn bus_ok(cores: usize, slot: usize, core: usize) -> bool
     ensures { λ r. ⌜ r ≡ busOk cores slot core ⌝ }
 {
     if !between(2, 16, cores) {

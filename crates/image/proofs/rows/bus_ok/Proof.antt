@@ -1,9 +1,10 @@
--- At each return the tests so far decide the conjunction; the product of two bytes fits.
+-- At each return the tests so far decide the conjunction; the product of a number up to 16 and one up to 128 fits.
 use borrow.Author.Needs.{needs}
 use Rattle.image.proofs.rows.bus_ok.Statement.{statement}
 use Rattle.image.proofs.rows.bus_ok.Tie as tie
 use Rattle.image.specs.Fields.{busOk}
-use Rattle.image.proofs.Numbers.{product-fits}
+use Rattle.image.proofs.Numbers.{is-within}
+use native.Mathlib.Nat.{mul-le-mul}
 use mathlib.Core.Path.{sym, _∙_}
 use borrow.Author.Tests.{not-true, not-false, lt-ltb, le-ltb}
 use native.Mathlib.Omega.{arith}
@@ -28,7 +29,11 @@ returns-3 c =
     simp (sym (c .before .before .before .before .between .ensures) ∙ not-false _ (c .before .before .before .if1 .left), sym (c .before .before .between2 .ensures) ∙ not-false _ (c .before .if2 .left), le-ltb _ _ (c .if3 .taken))
 
 mul-result : tie.Need-mul-result
-mul-result c = product-fits _ _ (omega arith) (omega arith)
+mul-result c =
+    let a = c .before .before .before .before .before .args in
+    let n = is-within 2 16 (a .cores) (sym (c .before .before .before .before .between .ensures) ∙ not-false _ (c .before .before .before .if1 .left)) in
+    let l = is-within 1 128 (a .slot) (sym (c .before .before .between2 .ensures) ∙ not-false _ (c .before .if2 .left)) in
+    omega (arith, mul-le-mul (n .1) (l .1))
 
 returns-4 : tie.Need-returns-4
 unfolding busOk

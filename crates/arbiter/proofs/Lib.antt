@@ -1,0 +1,9 @@
+pub mod Tests
+pub mod Formed
+pub mod Long
+pub mod Sweeps
+pub mod Steps
+pub mod Packing
+pub mod Reasons
+pub mod Lent
+pub mod Walking

@@ -1,0 +1,100 @@
+-- The invariant: behind the first three bytes, those of the cores below i are set.
+use mathlib.Core.Path.{_≡_, sym, _∙_, ap, ap₂}
+use mathlib.Core.List.{List, _∷_, [], _++_, append-nil}
+use native.Mathlib.Omega.{arith}
+use lib.ListN.{length, getD, take}
+use lib.Seq.{take-all}
+use Prim.Native.Nat.{ℕ, _+_, _-_, _*_, _≤_, _<_}
+use Rattle.arbiter.specs.Device.{clear}
+use Rattle.arbiter.specs.Bytes.{flat, bytesOf}
+use Rattle.arbiter.proofs.Long.{long}
+use Rattle.arbiter.proofs.Packing.{three, length-three, take-three, core-set}
+use Rattle.arbiter.proofs.bytes.put_state.Statement.{statement}
+use Rattle.arbiter.proofs.bytes.put_state.Tie as tie
+
+abbrev Inv-loop : tie.InvT-loop
+Inv-loop bytes₀ registers i₀ bytes i =
+    (length registers ≡ 16) × (i ≤ 16) × (length bytes ≡ 51) × (take (3 + 3 * i) bytes ≡ take 3 bytes₀ ++ flat (take i registers))
+
+abbrev μ-loop : tie.MeasureT-loop
+μ-loop bytes₀ registers i₀ bytes i = 16 - i
+
+put-requires : tie.Need-put-requires Inv-loop μ-loop
+put-requires c κs = omega (arith, c .before .before .pre)
+
+loop-holds : tie.Need-loop-holds Inv-loop μ-loop
+unfolding flat
+loop-holds c =
+    let b = c .before .before .before .before .before .before in
+    let s = b .args .s in
+    let e = c .before .before .before .put .ensures in
+    (long s _ (b .good .1 .0), omega arith, rw e (length-three (b .args .bytes .now) 0 (s .cores) (s .slot) (s .offset) ∙ b .pre), sym (append-nil _))
+
+mul-r : tie.Need-mul-r Inv-loop μ-loop
+mul-r c = omega arith
+
+array-copy-out-r : tie.Need-array-copy-out-r Inv-loop μ-loop
+array-copy-out-r c = omega arith
+
+mul-put : tie.Need-mul-put Inv-loop μ-loop
+mul-put c = omega arith
+
+add-put : tie.Need-add-put Inv-loop μ-loop
+add-put c = omega arith
+
+put-requires-2 : tie.Need-put-requires-2 Inv-loop μ-loop
+put-requires-2 c κs = omega (arith, c .before .before .before .loop .inv .2)
+
+add-i : tie.Need-add-i Inv-loop μ-loop
+add-i c = omega arith
+
+loop-less : tie.Need-loop-less Inv-loop μ-loop
+loop-less c = omega arith
+
+loop-again : tie.Need-loop-again Inv-loop μ-loop
+loop-again c =
+    let l = c .before .before .before .before .before .before in
+    let rs = l .before .before .before .before .before .before .before .args .s .registers in
+    let b = l .loop .bytes in
+    let i = l .loop .i in
+    let r = getD rs i clear in
+    let e : c .before .before .put2 .last .0 ≡ three b (3 + 3 * i) (r .length) (r .flags) (r .mask) = c .before .before .put2 .ensures in (
+      l .loop .inv .0,
+      omega arith,
+      rw e (length-three b (3 + 3 * i) (r .length) (r .flags) (r .mask) ∙ l .loop .inv .2),
+      rw e (core-set (take 3 (l .before .before .before .before .put .last .0)) b rs i (omega (arith, l .loop .inv .0)) (omega (arith, l .loop .inv .2)) (l .loop .inv .3)),
+    )
+
+same-length : tie.Need-same-length Inv-loop μ-loop
+same-length c = omega (arith, c .before .loop .inv .2, c .before .before .before .before .before .before .before .before .pre)
+
+returns : tie.Need-returns Inv-loop μ-loop
+unfolding bytesOf
+returns c =
+    let l = c .before in
+    let b = l .before .before .before .before .before .before .before in
+    let s = b .args .s in
+    let e : 3 + 3 * l .loop .i ≡ 51 = omega arith in
+    let f : take 3 (l .before .before .before .before .put .last .0) ≡ s .cores ∷ s .slot ∷ s .offset ∷ [] =
+    ap (take 3) (l .before .before .before .before .put .ensures) ∙ take-three (b .args .bytes .now) 0 (s .cores) (s .slot) (s .offset) (omega (arith, b .pre)) in
+    sym (take-all 51 (l .loop .bytes) (omega (arith, l .loop .inv .2))) ∙ ap (λ (m : ℕ). take m (l .loop .bytes)) (sym e) ∙ l .loop .inv .3
+    ∙ ap₂ (λ (xs ys : List ℕ). xs ++ ys) f (ap flat (take-all (l .loop .i) (s .registers) (omega (arith, l .loop .inv .0))))
+
+pub put-state-spec : {M : Type 1} → statement M
+put-state-spec =
+    tie.close
+    (tie.spec
+    Inv-loop
+    μ-loop
+    put-requires
+    loop-holds
+    mul-r
+    array-copy-out-r
+    mul-put
+    add-put
+    put-requires-2
+    add-i
+    loop-less
+    loop-again
+    same-length
+    returns)

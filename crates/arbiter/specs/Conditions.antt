@@ -1,0 +1,65 @@
+-- When a call is refused, in plain terms and with no order of steps: the promise of each entry says that its answer is a refusal if and only
+-- if `RefusedFor` holds (document 02: "New numbers"). Definitions only.
+use mathlib.Core.Path.{_≡_}
+use mathlib.Core.Logic.{_⊎_}
+use Prim.Native.Nat.{ℕ, _*_, _≤_, _<_}
+use Rattle.bus.specs.Waits.{Ranges}
+use Rattle.image.specs.declared.Refusal.{Refusal}
+use Rattle.image.specs.declared.Refusal.the-variants.{Register, Busy}
+use Rattle.arbiter.specs.Device.{registersOf}
+use Rattle.arbiter.specs.Calls.{Call, read, line, write, tick, reset}
+use Rattle.arbiter.specs.declared.Arbiter.{Arbiter}
+use Rattle.arbiter.specs.declared.Registers.{Registers}
+
+-- "in the ranges of tag 1"
+abbrev pub Sized : ℕ → ℕ → Type 0
+Sized cores slot = Ranges (record { cores = cores; slot = slot; core = 0 })
+
+-- waiting or running
+abbrev pub IsBusy : Registers → Type 0
+IsBusy r = (r .flags ≡ 1) ⊎ (r .flags ≡ 2)
+
+-- one core's registers in range
+pub record Fits (slot : ℕ) (r : Registers) : Type 0 where
+  pub length-most : r .length ≤ slot
+  pub mask-most : r .mask ≤ 1
+  -- "flags not 0, 1, 2 or 4" are out of range
+  pub flags-one : ((r .flags ≡ 0) ⊎ (r .flags ≡ 4)) ⊎ IsBusy r
+  -- so is "a waiting or running length of 0"
+  pub busy-length : IsBusy r → 1 ≤ r .length
+
+-- a state with no number out of range; the registers of every core, used or not
+pub record WellFormed (a : Arbiter) : Type 0 where
+  pub size : Sized (a .cores) (a .slot)
+  pub offset-lt : a .offset < a .cores * a .slot
+  pub all-fit : (p : ℕ) → Fits (a .slot) (registersOf a p)
+
+-- "a core, register or value out of range (a reset's too), a write to flags"
+pub data Misnamed (a : Arbiter) : Call → Type 0 where
+  read-core : {p n : ℕ} → a .cores ≤ p → Misnamed a (read p n)
+  read-register : {p n : ℕ} → 3 ≤ n → Misnamed a (read p n)
+  line-core : {p : ℕ} → a .cores ≤ p → Misnamed a (line p)
+  write-core : {p n v : ℕ} → a .cores ≤ p → Misnamed a (write p n v)
+  write-register : {p n v : ℕ} → 3 ≤ n → Misnamed a (write p n v)
+  write-flags : {p v : ℕ} → Misnamed a (write p 1 v)
+  no-length : {p : ℕ} → Misnamed a (write p 0 0)
+  length-above : {p v : ℕ} → a .slot < v → Misnamed a (write p 0 v)
+  mask-above : {p v : ℕ} → 1 < v → Misnamed a (write p 2 v)
+  reset-size : {cores slot : ℕ} → (Sized cores slot → ⊥) → Misnamed a (reset cores slot)
+
+-- "save for a reset"
+abbrev pub AsksState : Call → Type 0
+AsksState (read p n) = Unit {0}
+AsksState (line p) = Unit {0}
+AsksState (write p n v) = Unit {0}
+AsksState tick = Unit {0}
+AsksState (reset cores slot) = ⊥
+
+-- for what a call is refused
+pub data RefusedFor (a : Arbiter) : Call → Refusal → Type 0 where
+  -- 15, "judged first": of what the call names ..
+  misnamed : {c : Call} → Misnamed a c → RefusedFor a c Register
+  -- .. "or, save for a reset, a state with a number out of range"
+  malformed : {c : Call} → AsksState c → (WellFormed a → ⊥) → RefusedFor a c Register
+  -- 16: "a length written while waiting or running"
+  still-busy : {p v : ℕ} → WellFormed a → (Misnamed a (write p 0 v) → ⊥) → IsBusy (registersOf a p) → RefusedFor a (write p 0 v) Busy

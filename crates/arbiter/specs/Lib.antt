@@ -1,0 +1,7 @@
+pub mod Device
+pub mod Calls
+pub mod Conditions
+pub mod Sequences
+pub mod Promise
+pub mod Bytes
+pub mod Steps

@@ -1,0 +1,175 @@
+// Each entry's call, with the state by value: the outcome is the state after it and the answer.
+ghost use mathlib.Core.Path.{_≡_};
+ghost use Prim.Native.Nat.{_≤_, _<_};
+ghost use Rattle.arbiter.specs.Device.{registerAt, lineOf, writable, busy};
+ghost use Rattle.arbiter.specs.Calls.{outcome, read, line, write, tick, reset, written, tell, leave};
+use crate::Arbiter;
+use crate::Outcome;
+use crate::Registers;
+use crate::Reply;
+use crate::states::core_ok;
+use crate::states::registers_at;
+use crate::states::state_ok;
+use crate::states::with_registers;
+use crate::ticks::ticked_state;
+use image::Refusal;
+
+fn refuse(r: Refusal, s: Arbiter) -> Outcome
+    ensures { λ o. ⌜ o ≡ Rattle.arbiter.specs.Calls.refuse r s ⌝ }
+{
+    Outcome {
+        state: s,
+        reply: Reply::Refused(r, 0),
+    }
+}
+
+fn accept(s: Arbiter) -> Outcome
+    ensures { λ o. ⌜ o ≡ leave s ⌝ }
+{
+    Outcome {
+        state: s,
+        reply: Reply::Accepted,
+    }
+}
+
+fn answer(value: u8, s: Arbiter) -> Outcome
+    ensures { λ o. ⌜ o ≡ tell value s ⌝ }
+{
+    Outcome {
+        state: s,
+        reply: Reply::Value(value),
+    }
+}
+
+fn register_value(register: usize, r: Registers) -> u8
+    ensures { λ v. ⌜ v ≡ registerAt register r ⌝ }
+{
+    match register {
+        0 => r.length,
+        1 => r.flags,
+        _ => r.mask,
+    }
+}
+
+fn line_value(r: Registers) -> u8
+    ensures { λ v. ⌜ v ≡ lineOf r ⌝ }
+{
+    if r.flags == 4 {
+        if r.mask == 1 {
+            return 1;
+        }
+    }
+    0
+}
+
+// May the value be written to the register?
+fn value_ok(slot: usize, register: usize, value: usize) -> bool
+    ensures { λ b. ⌜ b ≡ writable slot register value ⌝ }
+{
+    match register {
+        0 => {
+            if value < 1 {
+                return false;
+            }
+            value <= slot
+        },
+        2 => value <= 1,
+        _ => false,
+    }
+}
+
+fn is_busy(r: Registers) -> bool
+    ensures { λ b. ⌜ b ≡ busy r ⌝ }
+{
+    if r.flags == 1 {
+        return true;
+    }
+    r.flags == 2
+}
+
+// A write that 15 does not refuse.
+fn store(s: Arbiter, core: usize, register: usize, value: u8) -> Outcome
+    requires { ⌜ core < 16 ⌝ }
+    ensures { λ o. ⌜ o ≡ written core register value s ⌝ }
+{
+    let r = registers_at(s, core);
+    if register == 0 {
+        if is_busy(r) {
+            return refuse(Refusal::Busy, s);
+        }
+        let waiting = Registers {
+            length: value,
+            flags: 1,
+            mask: r.mask,
+        };
+        return accept(with_registers(s, core, waiting));
+    }
+    let masked = Registers {
+        length: r.length,
+        flags: r.flags,
+        mask: value,
+    };
+    accept(with_registers(s, core, masked))
+}
+
+pub fn on_read(s: Arbiter, core: usize, register: usize) -> Outcome
+    ensures { λ o. ⌜ o ≡ outcome (read core register) s ⌝ }
+{
+    if !core_ok(s, core) {
+        return refuse(Refusal::Register, s);
+    }
+    if 3 <= register {
+        return refuse(Refusal::Register, s);
+    }
+    answer(register_value(register, registers_at(s, core)), s)
+}
+
+pub fn on_line(s: Arbiter, core: usize) -> Outcome
+    ensures { λ o. ⌜ o ≡ outcome (line core) s ⌝ }
+{
+    if !core_ok(s, core) {
+        return refuse(Refusal::Register, s);
+    }
+    answer(line_value(registers_at(s, core)), s)
+}
+
+pub fn on_write(s: Arbiter, core: usize, register: usize, value: usize) -> Outcome
+    ensures { λ o. ⌜ o ≡ outcome (write core register value) s ⌝ }
+{
+    if !core_ok(s, core) {
+        return refuse(Refusal::Register, s);
+    }
+    if !value_ok(s.slot as usize, register, value) {
+        return refuse(Refusal::Register, s);
+    }
+    store(s, core, register, value as u8)
+}
+
+pub fn on_tick(s: Arbiter) -> Outcome
+    ensures { λ o. ⌜ o ≡ outcome tick s ⌝ }
+{
+    if !state_ok(s) {
+        return refuse(Refusal::Register, s);
+    }
+    accept(ticked_state(s))
+}
+
+pub fn on_reset(s: Arbiter, cores: usize, slot: usize) -> Outcome
+    ensures { λ o. ⌜ o ≡ outcome (reset cores slot) s ⌝ }
+{
+    if !image::rows::bus_ok(cores, slot, 0) {
+        return refuse(Refusal::Register, s);
+    }
+    let clear = Registers {
+        length: 0,
+        flags: 0,
+        mask: 0,
+    };
+    let fresh = Arbiter {
+        cores: cores as u8,
+        slot: slot as u8,
+        offset: 0,
+        registers: [clear; 16],
+    };
+    accept(fresh)
+}

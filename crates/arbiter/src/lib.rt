@@ -1,0 +1,101 @@
+// arbiter: the bus arbiter as a device with registers (document 02, "The arbiter as a device"). Its owner lends the state, and each entry alters
+// it there.
+//
+// The five entries ask nothing of their caller and promise `Answers` of specs/Promise.antt for every state and every number: the answer and the
+// state at exit are those that `outcome` (specs/Calls.antt, over specs/Device.antt) names for the call, refused calls too; and the call is
+// refused, with 15 or 16 and place 0, if and only if the condition for it holds (specs/Conditions.antt), and then the state is as it was.
+// Wrong answers that this rules out: an access that starts where its slot does not hold it whole, a first cycle that is not counted, done that
+// is kept when a length is written, 16 for a call that 15 refuses, an unused core's registers that are not looked at.
+//
+// Of calls one after the other (specs/Sequences.antt): a length is done after Equation 7's wait and its own cycles and no sooner, which are the
+// cycles of an access of a run (`on-time`, `as-the-clock` in proofs/Timing.antt); other cores never alter a core's registers or line
+// (`undisturbed` in proofs/Apart.antt); no two cores are running (`one-running` in proofs/Reach.antt), and the offset is the number of ticks
+// since the reset modulo P (`offset-since` in proofs/Timing.antt).
+//
+// src/: states (what a state may hold), ticks, calls (each entry's call with the state by value), bytes (the state as 51 bytes).
+ghost use Rattle.arbiter.specs.Calls.{read, line, write, tick, reset};
+ghost use Rattle.arbiter.specs.Promise.{Answers};
+use crate::calls::on_line;
+use crate::calls::on_read;
+use crate::calls::on_reset;
+use crate::calls::on_tick;
+use crate::calls::on_write;
+use image::Refusal;
+
+pub mod bytes;
+pub mod calls;
+mod states;
+mod ticks;
+
+// One core's registers: 0 length, 1 flags (1 waiting, 2 running, 4 done), 2 interrupt mask.
+pub struct Registers {
+    pub length: u8,
+    pub flags: u8,
+    pub mask: u8,
+}
+
+// The state: the bus's cores and slot length, the offset, and the registers of 16 cores, unused ones too.
+pub struct Arbiter {
+    pub cores: u8,
+    pub slot: u8,
+    pub offset: u8,
+    pub registers: [Registers; 16],
+}
+
+// The answer to a call; a refusal has its place beside it.
+pub enum Reply {
+    Accepted,
+    Value(u8),
+    Refused(Refusal, usize),
+}
+
+// The state after a call, and the answer to it.
+pub struct Outcome {
+    pub state: Arbiter,
+    pub reply: Reply,
+}
+
+// A core's register.
+pub fn read(a: &mut Arbiter, core: usize, register: usize) -> Reply
+    ensures { λ r. ⌜ Answers (read core register) (now (a .entry)) (now (a .exit)) r ⌝ }
+{
+    let o = on_read(*a, core, register);
+    *a = o.state;
+    o.reply
+}
+
+// A core's interrupt line.
+pub fn line(a: &mut Arbiter, core: usize) -> Reply
+    ensures { λ r. ⌜ Answers (line core) (now (a .entry)) (now (a .exit)) r ⌝ }
+{
+    let o = on_line(*a, core);
+    *a = o.state;
+    o.reply
+}
+
+// A value to a core's register.
+pub fn write(a: &mut Arbiter, core: usize, register: usize, value: usize) -> Reply
+    ensures { λ r. ⌜ Answers (write core register value) (now (a .entry)) (now (a .exit)) r ⌝ }
+{
+    let o = on_write(*a, core, register, value);
+    *a = o.state;
+    o.reply
+}
+
+// One cycle of the bus.
+pub fn tick(a: &mut Arbiter) -> Reply
+    ensures { λ r. ⌜ Answers tick (now (a .entry)) (now (a .exit)) r ⌝ }
+{
+    let o = on_tick(*a);
+    *a = o.state;
+    o.reply
+}
+
+// A bus of this many cores and this slot length, with all registers and the offset clear.
+pub fn reset(a: &mut Arbiter, cores: usize, slot: usize) -> Reply
+    ensures { λ r. ⌜ Answers (reset cores slot) (now (a .entry)) (now (a .exit)) r ⌝ }
+{
+    let o = on_reset(*a, cores, slot);
+    *a = o.state;
+    o.reply
+}
