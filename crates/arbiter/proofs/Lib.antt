@@ -5,5 +5,9 @@ pub mod Sweeps
 pub mod Steps
 pub mod Packing
 pub mod Reasons
+pub mod Kept
+pub mod Apart
+pub mod Reach
+pub mod Timing
 pub mod Lent
 pub mod Walking

@@ -29,13 +29,16 @@ pub data Quiet : List Call → Type 0 where
   more : {c : Call} {cs : List Call} → resets c ≡ false → Quiet cs → Quiet (c ∷ cs)
 
 -- how many ticks there are
+abbrev pub oneIfTick : Call → ℕ
+oneIfTick (read p n) = 0
+oneIfTick (line p) = 0
+oneIfTick (write p n v) = 0
+oneIfTick tick = 1
+oneIfTick (reset cores slot) = 0
+
 unfoldable pub ticks : List Call → ℕ
 ticks [] = 0
-ticks (tick ∷ cs) = 1 + ticks cs
-ticks (read p n ∷ cs) = ticks cs
-ticks (line p ∷ cs) = ticks cs
-ticks (write p n v ∷ cs) = ticks cs
-ticks (reset cores slot ∷ cs) = ticks cs
+ticks (c ∷ cs) = oneIfTick c + ticks cs
 
 -- how a state is reached: the last reset that was accepted, and the calls since then
 pub record Since (b : Arbiter) : Type 0 where
