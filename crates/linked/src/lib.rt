@@ -1,22 +1,30 @@
-// linked: the five functions that C and Rust programs link (include/slotfigures.h, wrapper/), over plain numbers and lent slices.
+// linked: the ten functions that C and Rust programs link (include/slotfigures.h, wrapper/), over plain numbers and lent slices.
 //
-// They ask nothing of their caller and promise that the status and each lent slice at exit equal definitions over the image's bytes, or the
-// task table's numbers, and the slices at entry, for what is accepted and what is refused alike (specs/Linked.antt):
+// They ask nothing of their caller and promise that the status and each lent slice at exit equal definitions over the image's bytes, the task
+// table's numbers or the arbiter's bytes, and the slices at entry, for what is accepted and what is refused alike (specs/Linked.antt):
 //   slotfigures_judge     `judgeCall`; wrong answers that it rules out: the place before the number, status 0 for a refused image
 //   slotfigures_figures   `figuresCall`; ruled out: the published figure in the tight one's place, a short answer that is written to
 //   slotfigures_edit      `editCall`; ruled out: the highest duration as the lowest, an image edited though the answer is too short
 //   slotfigures_preview   `previewCall`; ruled out: the figures of the image as it is, a table written to by a refused preview
 //   slotfigures_finishes  `finishesCall`; ruled out: another number than 21, finishes of fewer than 64 places that are written to
-// The numbers are those of `image::judge`, `figures::figures`, `edits::edit`, `edits::preview` and `graph::finishes`, whose promises hold of
-// them. Of the places that the caller reads, `WholeFigures` and `WholePreview` repeat demand 3, `WholeEdit` what an edit leaves, and
-// `WholeFinishes` what finishes say of all starts, ends and whole runs.
+//   slotfigures_arbiter_reset, _tick, _write, _read, _line
+//                         `arbiterCall` of that call; ruled out: a state of 50 bytes that is taken, flags where the length stands
+// The numbers are those of `image::judge`, `figures::figures`, `edits::edit`, `edits::preview`, `graph::finishes` and the calls of `arbiter`,
+// whose promises hold of them. Of the places that the caller reads, `WholeFigures` and `WholePreview` repeat demand 3, `WholeEdit` what an edit
+// leaves, and `WholeFinishes` what finishes say of all starts, ends and whole runs. Calls to the arbiter one after the other lead where
+// `afterAll` of `arbiter` leads, so its laws hold of the bytes (`bytes-lead` in proofs/Calls.antt).
 ghost use mathlib.Core.Path.{_≡_};
 ghost use mathlib.Core.List.{_∷_};
 ghost use Prim.Native.Nat.{_≤_};
 ghost use lib.ListN.{length, drop};
 ghost use Rattle.image.specs.Judged.{numberOf};
 ghost use Rattle.figures.specs.Answers.{resultOf};
-ghost use Rattle.linked.specs.Linked.{doneInto, refusedInto, judgeCall, told, figuresCall, WholeFigures, editCall, WholeEdit, previewCall, WholePreview, finishesCall, WholeFinishes};
+ghost use Rattle.linked.specs.Linked.{doneInto, refusedInto, judgeCall, told, figuresCall, WholeFigures, editCall, WholeEdit, previewCall, WholePreview, finishesCall, WholeFinishes, room, repliedInto, arbiterInto, arbiterCall};
+ghost use Rattle.arbiter.specs.Calls.{read, line, write, tick, reset};
+use arbiter::Outcome;
+use arbiter::Reply;
+use arbiter::bytes::put_state;
+use arbiter::bytes::state_of;
 use edits::Edited;
 use figures::Answer;
 use image::Refusal;
@@ -28,7 +36,7 @@ const DONE: u64 = 0;
 // Status: refused.
 const REFUSED: u64 = 1;
 
-// Status: the answer or the finishes have too few places.
+// Status: the answer or the finishes have too few places, or the arbiter's state has not 51 bytes.
 const SHORT: u64 = 2;
 
 // The number of a refused task table.
@@ -189,4 +197,120 @@ pub extern "C" fn slotfigures_finishes(
             REFUSED
         }
     }
+}
+
+// Has the answer two places, and is the state as long as a state of the arbiter is?
+fn has_room(state: &[u8], answer: &[u64]) -> bool
+    ensures { λ b. ⌜ b ≡ room (now (state .entry)) (now (answer .entry)) ⌝ }
+{
+    if answer.len() < 2 {
+        return false;
+    }
+    state.len() == arbiter::bytes::BYTES
+}
+
+// What a call to the arbiter answers: 0 and the value read, 0 where none is, or the number and the place.
+fn reply(answer: &mut [u64], r: Reply) -> u64
+    requires { ⌜ 2 ≤ length (now answer) ⌝ }
+    ensures { λ n. ⌜ repliedInto r (now (answer .entry)) ≡ (n, now (answer .exit)) ⌝ }
+{
+    match r {
+        Reply::Accepted => done(answer),
+        Reply::Value(v) => {
+            put(answer, 0, v as u64);
+            DONE
+        }
+        Reply::Refused(x, place) => refuse(answer, x, place),
+    }
+}
+
+// The state after a call to the arbiter, and what it answers.
+fn conclude(state: &mut [u8], answer: &mut [u64], o: Outcome) -> u64
+    requires { ⌜ (length (now state) ≡ 51) × (2 ≤ length (now answer)) ⌝ }
+    ensures { λ n. ⌜ arbiterInto o (now (answer .entry)) ≡ (n, now (state .exit), now (answer .exit)) ⌝ }
+{
+    put_state(state, o.state);
+    let r = o.reply;
+    reply(answer, r)
+}
+
+// A bus of so many cores and such a slot length, with all registers and the offset clear.
+#[no_mangle]
+pub extern "C" fn slotfigures_arbiter_reset(
+    state: &mut [u8],
+    cores: u64,
+    slot: u64,
+    answer: &mut [u64],
+) -> u64
+    ensures { λ r. ⌜ arbiterCall (reset cores slot) (now (state .entry)) (now (answer .entry)) ≡ (r, now (state .exit), now (answer .exit)) ⌝ }
+{
+    if !has_room(state, answer) {
+        return SHORT;
+    }
+    let o = arbiter::calls::on_reset(state_of(state), cores as usize, slot as usize);
+    conclude(state, answer, o)
+}
+
+// One cycle of the bus.
+#[no_mangle]
+pub extern "C" fn slotfigures_arbiter_tick(state: &mut [u8], answer: &mut [u64]) -> u64
+    ensures { λ r. ⌜ arbiterCall tick (now (state .entry)) (now (answer .entry)) ≡ (r, now (state .exit), now (answer .exit)) ⌝ }
+{
+    if !has_room(state, answer) {
+        return SHORT;
+    }
+    let o = arbiter::calls::on_tick(state_of(state));
+    conclude(state, answer, o)
+}
+
+// A value to a core's register: 0 length, 1 flags, 2 interrupt mask.
+#[no_mangle]
+pub extern "C" fn slotfigures_arbiter_write(
+    state: &mut [u8],
+    core: u64,
+    register: u64,
+    value: u64,
+    answer: &mut [u64],
+) -> u64
+    ensures { λ r. ⌜ arbiterCall (write core register value) (now (state .entry)) (now (answer .entry)) ≡ (r, now (state .exit), now (answer .exit)) ⌝ }
+{
+    if !has_room(state, answer) {
+        return SHORT;
+    }
+    let o = arbiter::calls::on_write(
+        state_of(state),
+        core as usize,
+        register as usize,
+        value as usize,
+    );
+    conclude(state, answer, o)
+}
+
+// A core's register.
+#[no_mangle]
+pub extern "C" fn slotfigures_arbiter_read(
+    state: &mut [u8],
+    core: u64,
+    register: u64,
+    answer: &mut [u64],
+) -> u64
+    ensures { λ r. ⌜ arbiterCall (read core register) (now (state .entry)) (now (answer .entry)) ≡ (r, now (state .exit), now (answer .exit)) ⌝ }
+{
+    if !has_room(state, answer) {
+        return SHORT;
+    }
+    let o = arbiter::calls::on_read(state_of(state), core as usize, register as usize);
+    conclude(state, answer, o)
+}
+
+// A core's interrupt line.
+#[no_mangle]
+pub extern "C" fn slotfigures_arbiter_line(state: &mut [u8], core: u64, answer: &mut [u64]) -> u64
+    ensures { λ r. ⌜ arbiterCall (line core) (now (state .entry)) (now (answer .entry)) ≡ (r, now (state .exit), now (answer .exit)) ⌝ }
+{
+    if !has_room(state, answer) {
+        return SHORT;
+    }
+    let o = arbiter::calls::on_line(state_of(state), core as usize);
+    conclude(state, answer, o)
 }
