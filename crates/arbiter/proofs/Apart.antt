@@ -13,7 +13,9 @@ use Rattle.arbiter.specs.declared.Outcome.{Outcome}
 use Rattle.arbiter.specs.declared.Registers.{Registers}
 use Rattle.arbiter.specs.declared.Reply.the-variants.{Value}
 use Rattle.arbiter.specs.Device.{sized, formed, usable, clear, registersOf, stepped, ticked, writable, busy, cleared, put, registerAt, lineOf}
-use Rattle.arbiter.specs.Calls.{Call, read, line, write, tick, reset, outcome, after, answer, afterAll, written}
+use Rattle.arbiter.specs.declared.Call.{Call}
+use Rattle.arbiter.specs.declared.Call.the-variants.{Read, Line, Write, Tick, Reset}
+use Rattle.arbiter.specs.Calls.{outcome, after, answer, afterAll, written}
 use Rattle.arbiter.specs.Sequences.{mine, own, Alike}
 use Rattle.arbiter.proofs.Steps.{ticked-formed}
 use Rattle.arbiter.proofs.Kept.{cond-both, read-leaves, line-leaves, wrote, Frame, frameOf, wrote-frame, wrote-other, tick-leaves, tick-refused, ticked-registers, ticked-length, reset-leaves, reset-refused}
@@ -37,13 +39,13 @@ same-path {p} {a} {b} e = subst (λ (c : Arbiter). Same p a c) e (same-refl p a)
 
 -- a call that is not core p's own, no tick and no reset
 other : (p : ℕ) (c : Call) (a : Arbiter) → mine p c ≡ false → Same p (after c a) a
-other p (read q n) a e = same-path (read-leaves q n a)
-other p (line q) a e = same-path (line-leaves q a)
-other p (write q n v) a e =
+other p (Read q n) a e = same-path (read-leaves q n a)
+other p (Line q) a e = same-path (line-leaves q a)
+other p (Write q n v) a e =
     let w = wrote q n v a in
-    record { frame = wrote-frame q a (after (write q n v) a) w; registers-same = wrote-other p q a (after (write q n v) a) (λ i. eqb-false q p e (sym i)) w }
-other p tick a e = absurd (false≢true (sym e))
-other p (reset cores slot) a e = absurd (false≢true (sym e))
+    record { frame = wrote-frame q a (after (Write q n v) a) w; registers-same = wrote-other p q a (after (Write q n v) a) (λ i. eqb-false q p e (sym i)) w }
+other p Tick a e = absurd (false≢true (sym e))
+other p (Reset cores slot) a e = absurd (false≢true (sym e))
 
 -- what is put there is had there, if the list is long enough
 put-same : (p : ℕ) (a b : Arbiter) (r : Registers) → length (a .registers) ≡ length (b .registers) → registersOf (put a p r) p ≡ registersOf (put b p r) p
@@ -68,7 +70,7 @@ written-same p n v a b s =
     (either (busy (registersOf b p)) (λ t. rw t (s .registers-same)) (λ t. rw t (put-same p a b _ l))))
     (λ z. rw (z, s .registers-same) (put-same p a b _ l))
 
-write-registers : (p n v : ℕ) (a b : Arbiter) → Same p a b → registersOf (after (write p n v) a) p ≡ registersOf (after (write p n v) b) p
+write-registers : (p n v : ℕ) (a b : Arbiter) → Same p a b → registersOf (after (Write p n v) a) p ≡ registersOf (after (Write p n v) b) p
 unfolding outcome
 write-registers p n v a b s =
     cond-both (λ (x y : Outcome). registersOf (x .state) p ≡ registersOf (y .state) p) (ap₂ (λ (t : Bool) (l : ℕ). t && writable l n v) (usable-same s) (ap (λ (f : Frame). f .slot) (s .frame)))
@@ -96,7 +98,7 @@ ticked-same p a b s g f = record {
       ∙ sym (ticked-registers b p);
 }
 
-tick-same : {p : ℕ} {a b : Arbiter} → Same p a b → Same p (after tick a) (after tick b)
+tick-same : {p : ℕ} {a b : Arbiter} → Same p a b → Same p (after Tick a) (after Tick b)
 tick-same {p} {a} {b} s =
     either (formed b)
     (λ f. let g = ap (λ (x : Frame). x .in-range) (s .frame) ∙ f in rw (tick-leaves a g, tick-leaves b f) (ticked-same p a b s g f))
@@ -104,15 +106,15 @@ tick-same {p} {a} {b} s =
 
 -- an own call, a tick or a reset in both
 pub each : (p : ℕ) (c : Call) (a b : Arbiter) → mine p c ≡ true → Same p a b → Same p (after c a) (after c b)
-each p (read q n) a b e s = absurd (false≢true e)
-each p (line q) a b e s = absurd (false≢true e)
-each p (write q n v) a b e s =
+each p (Read q n) a b e s = absurd (false≢true e)
+each p (Line q) a b e s = absurd (false≢true e)
+each p (Write q n v) a b e s =
     rw (eqb-true q p e) record {
-      frame = wrote-frame p a (after (write p n v) a) (wrote p n v a) ∙ s .frame ∙ sym (wrote-frame p b (after (write p n v) b) (wrote p n v b));
+      frame = wrote-frame p a (after (Write p n v) a) (wrote p n v a) ∙ s .frame ∙ sym (wrote-frame p b (after (Write p n v) b) (wrote p n v b));
       registers-same = write-registers p n v a b s;
     }
-each p tick a b e s = tick-same s
-each p (reset cores slot) a b e s =
+each p Tick a b e s = tick-same s
+each p (Reset cores slot) a b e s =
     either (sized cores slot)
     (λ z. rw (reset-leaves cores slot a z, reset-leaves cores slot b z) (same-refl p (cleared cores slot)))
     (λ z. rw (reset-refused cores slot a z, reset-refused cores slot b z) s)
@@ -131,12 +133,12 @@ apart p a cs ds e =
     same-trans (reduced p cs a a (same-refl p a))
     (subst (λ (es : List Call). Same p (afterAll es a) (afterAll ds a)) (sym e) (same-sym (reduced p ds a a (same-refl p a))))
 
-read-same : (p n : ℕ) (a b : Arbiter) → Same p a b → answer (read p n) a ≡ answer (read p n) b
+read-same : (p n : ℕ) (a b : Arbiter) → Same p a b → answer (Read p n) a ≡ answer (Read p n) b
 unfolding outcome
 read-same p n a b s =
     cond-both (λ (x y : Outcome). x .reply ≡ y .reply) (ap (λ (t : Bool). t && ltb n 3) (usable-same s)) (ap (λ (r : Registers). Value (registerAt n r)) (s .registers-same)) refl
 
-line-same : (p : ℕ) (a b : Arbiter) → Same p a b → answer (line p) a ≡ answer (line p) b
+line-same : (p : ℕ) (a b : Arbiter) → Same p a b → answer (Line p) a ≡ answer (Line p) b
 unfolding outcome
 line-same p a b s = cond-both (λ (x y : Outcome). x .reply ≡ y .reply) (usable-same s) (ap (λ (r : Registers). Value (lineOf r)) (s .registers-same)) refl
 

@@ -4,7 +4,7 @@ use mathlib.Core.Bool.{Bool, true, false, cond, _&&_}
 use native.Mathlib.Omega.{arith}
 use borrow.Author.Tests.{ltb-true}
 use lib.Dec.{leb, ltb, eqb}
-use lib.ListN.{length, set, length-set}
+use lib.ListN.{length, set, length-set, length-replicate}
 use lib.Seq.{getD-set-other}
 use Prim.Native.Nat.{ℕ, _<_}
 use Rattle.runs.proofs.Cases.{either}
@@ -13,7 +13,9 @@ use Rattle.arbiter.specs.declared.Outcome.{Outcome}
 use Rattle.arbiter.specs.declared.Registers.{Registers}
 use Rattle.image.specs.declared.Refusal.the-variants.{Register}
 use Rattle.arbiter.specs.Device.{sized, fits, flagsFit, formed, usable, clear, registersOf, slotsAt, stepped, ticked, writable, busy, cleared, put}
-use Rattle.arbiter.specs.Calls.{Call, read, line, write, tick, reset, outcome, after, written, refuse, leave}
+use Rattle.arbiter.specs.declared.Call.{Call}
+use Rattle.arbiter.specs.declared.Call.the-variants.{Read, Line, Write, Tick, Reset}
+use Rattle.arbiter.specs.Calls.{outcome, after, written, refuse, leave}
 use Rattle.arbiter.proofs.Tests.{and-left, and-right, and-both, cond-of}
 use Rattle.arbiter.proofs.Formed.{fits-at, formed-true, usable-formed, usable-core}
 use Rattle.arbiter.proofs.Steps.{stepped-at, stepped-length, ticked-formed, put-formed}
@@ -27,11 +29,11 @@ cond-both {X} P {t} {u} e {x} {y} {x′} {y′} f g = subst (λ (w : Bool). P (c
     at false = g
 
 -- a read leaves the state
-pub read-leaves : (p n : ℕ) (a : Arbiter) → after (read p n) a ≡ a
+pub read-leaves : (p n : ℕ) (a : Arbiter) → after (Read p n) a ≡ a
 unfolding outcome
 read-leaves p n a = cond-of (λ (o : Outcome). o .state ≡ a) (usable a p && ltb n 3) (λ t. refl) (λ t. refl)
 
-pub line-leaves : (p : ℕ) (a : Arbiter) → after (line p) a ≡ a
+pub line-leaves : (p : ℕ) (a : Arbiter) → after (Line p) a ≡ a
 unfolding outcome
 line-leaves p a = cond-of (λ (o : Outcome). o .state ≡ a) (usable a p) (λ t. refl) (λ t. refl)
 
@@ -66,7 +68,7 @@ written-wrote p n v a l f w =
     (λ z. rw z (cond-of (λ (o : Outcome). Wrote p a (o .state)) (busy (registersOf a p)) (λ t. not-at-all) (λ t. put-there _ l f (length-fits (a .slot) v _ (rw z at w) (mask-of (a .slot) (registersOf a p) g)) (waits t refl))))
     (λ z. rw z (put-there _ l f (mask-fits (a .slot) v (registersOf a p) g (and-right (eqb n 2) _ (rw z at w))) (keeps refl refl)))
 
-pub wrote : (p n v : ℕ) (a : Arbiter) → Wrote p a (after (write p n v) a)
+pub wrote : (p n v : ℕ) (a : Arbiter) → Wrote p a (after (Write p n v) a)
 unfolding outcome
 wrote p n v a =
     cond-of (λ (o : Outcome). Wrote p a (o .state)) (usable a p && writable (a .slot) n v)
@@ -97,11 +99,11 @@ wrote-other p q a b n not-at-all = refl
 wrote-other p q a b n (put-there r l f g h) = getD-set-other (a .registers) q p r clear n
 
 -- a tick of a state in range
-pub tick-leaves : (a : Arbiter) → formed a ≡ true → after tick a ≡ ticked a
+pub tick-leaves : (a : Arbiter) → formed a ≡ true → after Tick a ≡ ticked a
 unfolding outcome
 tick-leaves a f = ap (λ (t : Bool). cond t (leave (ticked a)) (refuse Register a) .state) f
 
-pub tick-refused : (a : Arbiter) → formed a ≡ false → after tick a ≡ a
+pub tick-refused : (a : Arbiter) → formed a ≡ false → after Tick a ≡ a
 unfolding outcome
 tick-refused a f = ap (λ (t : Bool). cond t (leave (ticked a)) (refuse Register a) .state) f
 
@@ -113,10 +115,25 @@ pub ticked-length : (a : Arbiter) → length (ticked a .registers) ≡ length (a
 unfolding ticked
 ticked-length a = stepped-length a (a .registers) 0
 
-pub reset-leaves : (cores slot : ℕ) (a : Arbiter) → sized cores slot ≡ true → after (reset cores slot) a ≡ cleared cores slot
+pub reset-leaves : (cores slot : ℕ) (a : Arbiter) → sized cores slot ≡ true → after (Reset cores slot) a ≡ cleared cores slot
 unfolding outcome
 reset-leaves cores slot a e = ap (λ (t : Bool). cond t (leave (cleared cores slot)) (refuse Register a) .state) e
 
-pub reset-refused : (cores slot : ℕ) (a : Arbiter) → sized cores slot ≡ false → after (reset cores slot) a ≡ a
+pub reset-refused : (cores slot : ℕ) (a : Arbiter) → sized cores slot ≡ false → after (Reset cores slot) a ≡ a
 unfolding outcome
 reset-refused cores slot a e = ap (λ (t : Bool). cond t (leave (cleared cores slot)) (refuse Register a) .state) e
+
+-- the registers of 16 cores stay those of 16 cores
+pub sixteen : (c : Call) (a : Arbiter) → length (a .registers) ≡ 16 → length (after c a .registers) ≡ 16
+unfolding cleared
+sixteen (Read p n) a e = ap (λ (b : Arbiter). length (b .registers)) (read-leaves p n a) ∙ e
+sixteen (Line p) a e = ap (λ (b : Arbiter). length (b .registers)) (line-leaves p a) ∙ e
+sixteen (Write p n v) a e = ap (λ (f : Frame). f .many) (wrote-frame p a (after (Write p n v) a) (wrote p n v a)) ∙ e
+sixteen Tick a e =
+    either (formed a)
+    (λ f. ap (λ (b : Arbiter). length (b .registers)) (tick-leaves a f) ∙ ticked-length a ∙ e)
+    (λ f. ap (λ (b : Arbiter). length (b .registers)) (tick-refused a f) ∙ e)
+sixteen (Reset cores slot) a e =
+    either (sized cores slot)
+    (λ z. ap (λ (b : Arbiter). length (b .registers)) (reset-leaves cores slot a z) ∙ length-replicate 16 clear)
+    (λ z. ap (λ (b : Arbiter). length (b .registers)) (reset-refused cores slot a z) ∙ e)

@@ -1,10 +1,10 @@
 -- The state and its 51 bytes say the same: from one to the other and back, and byte by byte.
-use mathlib.Core.Path.{_≡_, refl, sym, _∙_, ap}
+use mathlib.Core.Path.{_≡_, refl, sym, _∙_, ap, ap₂}
 use mathlib.Core.List.{List, [], _∷_, _++_, append-assoc}
 use native.Mathlib.Numerals.{add-one}
 use native.Mathlib.Omega.{arith}
 use lib.ListN.{length, getD, set, take, drop, length-set}
-use lib.Seq.{drop-cons, take-suc, take-suc-set}
+use lib.Seq.{take-suc, take-suc-set, take-all}
 use Prim.Native.Nat.{ℕ, zero, suc, _+_, _*_, _≤_, _<_}
 use Rattle.arbiter.specs.declared.Arbiter.{Arbiter}
 use Rattle.arbiter.specs.declared.Registers.{Registers}
@@ -45,6 +45,16 @@ rest-length s e = omega (arith, ap (λ (t : List ℕ). length t) (three-first s 
 pub there-and-back : (s : List ℕ) → length s ≡ 51 → bytesOf (stateOf s) ≡ s
 unfolding stateOf bytesOf
 there-and-back s e = rw (flat-cut 16 (drop 3 s) (rest-length s e)) (sym (three-first s (omega arith)))
+
+flat-length : (rs : List Registers) → length (flat rs) ≡ 3 * length rs
+unfolding flat
+flat-length [] = refl
+flat-length (r ∷ rs) = let e = flat-length rs in omega arith
+
+-- the bytes of 16 cores are 51
+pub bytes-length : (a : Arbiter) → length (a .registers) ≡ 16 → length (bytesOf a) ≡ 51
+unfolding bytesOf
+bytes-length a e = let f = flat-length (a .registers) in omega arith
 
 -- ---- byte by byte
 
@@ -138,3 +148,10 @@ core-set start b rs i h k e =
     ∙ ap (λ (xs : List ℕ). xs ++ one) e
     ∙ append-assoc start (flat (take i rs)) one
     ∙ ap (λ (xs : List ℕ). start ++ xs) (sym (flat-more rs i h))
+
+-- all of them
+pub all-set : (a : Arbiter) (start b : List ℕ) (i : ℕ) → 16 ≤ i → length (a .registers) ≡ 16 → length b ≡ 51 → i ≤ 16
+    → start ≡ a .cores ∷ a .slot ∷ a .offset ∷ [] → take (3 + 3 * i) b ≡ start ++ flat (take i (a .registers)) → b ≡ bytesOf a
+unfolding bytesOf
+all-set a start b i h l m k e f =
+    sym (take-all (3 + 3 * i) b (omega arith)) ∙ f ∙ ap₂ (λ (xs ys : List ℕ). xs ++ ys) e (ap flat (take-all i (a .registers) (omega arith)))

@@ -15,7 +15,9 @@ use Rattle.runs.proofs.Cases.{split, either}
 use Rattle.arbiter.specs.declared.Arbiter.{Arbiter}
 use Rattle.arbiter.specs.declared.Registers.{Registers}
 use Rattle.arbiter.specs.Device.{sized, formed, clear, registersOf, slotsAt, starts, run, stepped, ticked, cleared, put}
-use Rattle.arbiter.specs.Calls.{Call, read, line, write, tick, reset, after}
+use Rattle.arbiter.specs.declared.Call.{Call}
+use Rattle.arbiter.specs.declared.Call.the-variants.{Read, Line, Write, Tick, Reset}
+use Rattle.arbiter.specs.Calls.{after}
 use Rattle.arbiter.specs.Sequences.{Reached, fresh, next}
 use Rattle.arbiter.proofs.Tests.{and-left, and-right, or-right, or-cases, same}
 use Rattle.arbiter.proofs.Formed.{fits-at, formed-true, well-formed}
@@ -115,11 +117,11 @@ reached-sane (fresh a cores slot e) = rw (reset-leaves cores slot a e) (cleared-
 reached-sane (next {a} r c) = after-sane a c (reached-sane r)
   where
     after-sane : (a : Arbiter) (c : Call) → Sane a → Sane (after c a)
-    after-sane a (read p n) s = rw (read-leaves p n a) s
-    after-sane a (line p) s = rw (line-leaves p a) s
-    after-sane a (write p n v) s = wrote-sane p a (after (write p n v) a) (wrote p n v a) s
-    after-sane a tick s = rw (tick-leaves a (s .formed-is)) (ticked-sane a s)
-    after-sane a (reset cores slot) s =
+    after-sane a (Read p n) s = rw (read-leaves p n a) s
+    after-sane a (Line p) s = rw (line-leaves p a) s
+    after-sane a (Write p n v) s = wrote-sane p a (after (Write p n v) a) (wrote p n v a) s
+    after-sane a Tick s = rw (tick-leaves a (s .formed-is)) (ticked-sane a s)
+    after-sane a (Reset cores slot) s =
         either (sized cores slot)
         (λ e. rw (reset-leaves cores slot a e) (cleared-sane cores slot e))
         (λ e. rw (reset-refused cores slot a e) s)

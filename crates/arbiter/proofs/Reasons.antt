@@ -13,7 +13,9 @@ use Rattle.arbiter.specs.declared.Outcome.{Outcome}
 use Rattle.arbiter.specs.declared.Reply.{Reply}
 use Rattle.arbiter.specs.declared.Reply.the-variants.{Accepted, Value, Refused}
 use Rattle.arbiter.specs.Device.{sized, formed, usable, registersOf, put, registerAt, lineOf, writable, busy, cleared, ticked}
-use Rattle.arbiter.specs.Calls.{Call, read, line, write, tick, reset, outcome, written, tell, leave, refuse, after, answer}
+use Rattle.arbiter.specs.declared.Call.{Call}
+use Rattle.arbiter.specs.declared.Call.the-variants.{Read, Line, Write, Tick, Reset}
+use Rattle.arbiter.specs.Calls.{outcome, written, tell, leave, refuse, after, answer}
 use Rattle.arbiter.specs.Conditions.{Misnamed, read-core, read-register, line-core, write-core, write-register, write-flags, no-length, length-above, mask-above, reset-size, AsksState, RefusedFor, misnamed, malformed, still-busy}
 use Rattle.arbiter.specs.Promise.{Answers}
 use Rattle.arbiter.proofs.Tests.{and-left, and-right, and-both, cond-of}
@@ -24,7 +26,7 @@ use Rattle.arbiter.proofs.Formed.{sized-true, true-sized, well-formed, 
 fails : {t : Bool} → t ≡ false → t ≡ true → ⊥
 fails e f = false≢true (sym e ∙ f)
 
-not-writable : (a : Arbiter) (p n v : ℕ) → writable (a .slot) n v ≡ false → Misnamed a (write p n v)
+not-writable : (a : Arbiter) (p n v : ℕ) → writable (a .slot) n v ≡ false → Misnamed a (Write p n v)
 unfolding writable
 not-writable a p zero zero e = no-length
 not-writable a p zero (suc v) e = length-above (split (suc v) (a .slot) (λ h. absurd (fails e (and-both (le-leb 1 (suc v) (omega arith)) (le-leb (suc v) (a .slot) h)))) (λ h. h))
@@ -36,7 +38,7 @@ no-such-register : (slot n v : ℕ) → 3 ≤ n → writable slot n v ≡ false
 unfolding writable
 no-such-register slot n v h = rw (ne-eqb n 0 (λ e. omega arith), ne-eqb n 2 (λ e. omega arith))
 
-writable-named : (a : Arbiter) (p n v : ℕ) → p < a .cores → writable (a .slot) n v ≡ true → Misnamed a (write p n v) → ⊥
+writable-named : (a : Arbiter) (p n v : ℕ) → p < a .cores → writable (a .slot) n v ≡ true → Misnamed a (Write p n v) → ⊥
 unfolding writable
 writable-named a p n v l w (write-core h) = omega arith
 writable-named a p n v l w (write-register h) = fails (no-such-register (a .slot) n v h) w
@@ -73,93 +75,93 @@ holds-not c a f named b r (misnamed m) = named m
 holds-not c a f named b r (malformed asks n) = n (well-formed a f)
 holds-not c a f named b r (still-busy w m i) = b (still-busy w m i)
 
-read-named : (a : Arbiter) (p n : ℕ) → p < a .cores → n < 3 → Misnamed a (read p n) → ⊥
+read-named : (a : Arbiter) (p n : ℕ) → p < a .cores → n < 3 → Misnamed a (Read p n) → ⊥
 read-named a p n l k (read-core h) = omega arith
 read-named a p n l k (read-register h) = omega arith
 
-line-named : (a : Arbiter) (p : ℕ) → p < a .cores → Misnamed a (line p) → ⊥
+line-named : (a : Arbiter) (p : ℕ) → p < a .cores → Misnamed a (Line p) → ⊥
 line-named a p l (line-core h) = omega arith
 
-tick-named : (a : Arbiter) → Misnamed a tick → ⊥
+tick-named : (a : Arbiter) → Misnamed a Tick → ⊥
 tick-named a m = elim m [ ]
 
 -- a call is Busy only if it writes a length
-busy-read : (a : Arbiter) (p n : ℕ) → RefusedFor a (read p n) Busy → ⊥
+busy-read : (a : Arbiter) (p n : ℕ) → RefusedFor a (Read p n) Busy → ⊥
 busy-read a p n x = elim x [ ]
 
-busy-line : (a : Arbiter) (p : ℕ) → RefusedFor a (line p) Busy → ⊥
+busy-line : (a : Arbiter) (p : ℕ) → RefusedFor a (Line p) Busy → ⊥
 busy-line a p x = elim x [ ]
 
-busy-tick : (a : Arbiter) → RefusedFor a tick Busy → ⊥
+busy-tick : (a : Arbiter) → RefusedFor a Tick Busy → ⊥
 busy-tick a x = elim x [ ]
 
-busy-write : (a : Arbiter) (p n v : ℕ) → RefusedFor a (write p n v) Busy → (n ≡ 0) × (busy (registersOf a p) ≡ true)
+busy-write : (a : Arbiter) (p n v : ℕ) → RefusedFor a (Write p n v) Busy → (n ≡ 0) × (busy (registersOf a p) ≡ true)
 busy-write a p n v (still-busy w m i) = (refl, true-busy (registersOf a p) i)
 
-judged-read : (p n : ℕ) (a : Arbiter) → Judged (read p n) a (outcome (read p n) a)
+judged-read : (p n : ℕ) (a : Arbiter) → Judged (Read p n) a (outcome (Read p n) a)
 unfolding outcome
 judged-read p n a =
-    cond-of (Judged (read p n) a) (usable a p && ltb n 3)
+    cond-of (Judged (Read p n) a) (usable a p && ltb n 3)
     (λ t. let u = and-left (usable a p) _ t in
     answered
-    (holds-not (read p n) a (usable-formed a p u) (read-named a p n (usable-core a p u) (ltb-true n 3 (and-right (usable a p) _ t))) (busy-read a p n))
+    (holds-not (Read p n) a (usable-formed a p u) (read-named a p n (usable-core a p u) (ltb-true n 3 (and-right (usable a p) _ t))) (busy-read a p n))
     (told (registerAt n (registersOf a p))))
     (λ t. register (either (usable a p)
     (λ u. misnamed (read-register (split 3 n (λ h. h) (λ h. absurd (fails t (and-both u (lt-ltb n 3 h)))))))
-    (λ u. unusable (read p n) a p tt (λ h. read-core h) u)))
+    (λ u. unusable (Read p n) a p tt (λ h. read-core h) u)))
 
-judged-line : (p : ℕ) (a : Arbiter) → Judged (line p) a (outcome (line p) a)
+judged-line : (p : ℕ) (a : Arbiter) → Judged (Line p) a (outcome (Line p) a)
 unfolding outcome
 judged-line p a =
-    cond-of (Judged (line p) a) (usable a p)
-    (λ u. answered (holds-not (line p) a (usable-formed a p u) (line-named a p (usable-core a p u)) (busy-line a p)) (told (lineOf (registersOf a p))))
-    (λ u. register (unusable (line p) a p tt (λ h. line-core h) u))
+    cond-of (Judged (Line p) a) (usable a p)
+    (λ u. answered (holds-not (Line p) a (usable-formed a p u) (line-named a p (usable-core a p u)) (busy-line a p)) (told (lineOf (registersOf a p))))
+    (λ u. register (unusable (Line p) a p tt (λ h. line-core h) u))
 
-judged-written : (p n v : ℕ) (a : Arbiter) → formed a ≡ true → (Misnamed a (write p n v) → ⊥) → Judged (write p n v) a (written p n v a)
+judged-written : (p n v : ℕ) (a : Arbiter) → formed a ≡ true → (Misnamed a (Write p n v) → ⊥) → Judged (Write p n v) a (written p n v a)
 unfolding written
 judged-written p n v a f named =
     either (eqb n 0)
     (λ z. let e : n ≡ 0 = eqb-true n 0 z in
-    rw z (cond-of (Judged (write p n v) a) (busy (registersOf a p))
-    (λ b. busy-still (subst (λ (m : ℕ). RefusedFor a (write p m v) Busy) (sym e)
-    (still-busy (well-formed a f) (subst (λ (m : ℕ). Misnamed a (write p m v) → ⊥) e named) (busy-true (registersOf a p) b))))
-    (λ b. answered (holds-not (write p n v) a f named (λ x. fails b (busy-write a p n v x .1))) left)))
-    (λ z. rw z (answered (holds-not (write p n v) a f named (λ x. fails z (eq-eqb n 0 (busy-write a p n v x .0)))) left))
+    rw z (cond-of (Judged (Write p n v) a) (busy (registersOf a p))
+    (λ b. busy-still (subst (λ (m : ℕ). RefusedFor a (Write p m v) Busy) (sym e)
+    (still-busy (well-formed a f) (subst (λ (m : ℕ). Misnamed a (Write p m v) → ⊥) e named) (busy-true (registersOf a p) b))))
+    (λ b. answered (holds-not (Write p n v) a f named (λ x. fails b (busy-write a p n v x .1))) left)))
+    (λ z. rw z (answered (holds-not (Write p n v) a f named (λ x. fails z (eq-eqb n 0 (busy-write a p n v x .0)))) left))
 
-judged-write : (p n v : ℕ) (a : Arbiter) → Judged (write p n v) a (outcome (write p n v) a)
+judged-write : (p n v : ℕ) (a : Arbiter) → Judged (Write p n v) a (outcome (Write p n v) a)
 unfolding outcome
 judged-write p n v a =
-    cond-of (Judged (write p n v) a) (usable a p && writable (a .slot) n v)
+    cond-of (Judged (Write p n v) a) (usable a p && writable (a .slot) n v)
     (λ t. let u = and-left (usable a p) _ t in
     judged-written p n v a (usable-formed a p u) (writable-named a p n v (usable-core a p u) (and-right (usable a p) _ t)))
     (λ t. register (either (usable a p)
     (λ u. misnamed (not-writable a p n v (either (writable (a .slot) n v) (λ w. absurd (fails t (and-both u w))) (λ w. w))))
-    (λ u. unusable (write p n v) a p tt (λ h. write-core h) u)))
+    (λ u. unusable (Write p n v) a p tt (λ h. write-core h) u)))
 
-judged-tick : (a : Arbiter) → Judged tick a (outcome tick a)
+judged-tick : (a : Arbiter) → Judged Tick a (outcome Tick a)
 unfolding outcome
 judged-tick a =
-    cond-of (Judged tick a) (formed a)
-    (λ f. answered (holds-not tick a f (tick-named a) (busy-tick a)) left)
+    cond-of (Judged Tick a) (formed a)
+    (λ f. answered (holds-not Tick a f (tick-named a) (busy-tick a)) left)
     (λ f. register (malformed tt (λ w. fails f (formed-well a w))))
 
-judged-reset : (cores slot : ℕ) (a : Arbiter) → Judged (reset cores slot) a (outcome (reset cores slot) a)
+judged-reset : (cores slot : ℕ) (a : Arbiter) → Judged (Reset cores slot) a (outcome (Reset cores slot) a)
 unfolding outcome
 judged-reset cores slot a =
-    cond-of (Judged (reset cores slot) a) (sized cores slot)
+    cond-of (Judged (Reset cores slot) a) (sized cores slot)
     (λ z. answered (λ r x. free z r x) left)
     (λ z. register (misnamed (reset-size (λ k. fails z (true-sized cores slot k)))))
   where
-    free : sized cores slot ≡ true → (r : Refusal) → RefusedFor a (reset cores slot) r → ⊥
+    free : sized cores slot ≡ true → (r : Refusal) → RefusedFor a (Reset cores slot) r → ⊥
     free z r (misnamed (reset-size n)) = n (sized-true cores slot z)
     free z r (malformed asks n) = asks
 
 judged : (c : Call) (a : Arbiter) → Judged c a (outcome c a)
-judged (read p n) a = judged-read p n a
-judged (line p) a = judged-line p a
-judged (write p n v) a = judged-write p n v a
-judged tick a = judged-tick a
-judged (reset cores slot) a = judged-reset cores slot a
+judged (Read p n) a = judged-read p n a
+judged (Line p) a = judged-line p a
+judged (Write p n v) a = judged-write p n v a
+judged Tick a = judged-tick a
+judged (Reset cores slot) a = judged-reset cores slot a
 
 -- ---- if and only if
 

@@ -24,7 +24,9 @@ use Rattle.arbiter.specs.declared.Registers.{Registers}
 use Rattle.arbiter.specs.declared.Reply.{Reply}
 use Rattle.arbiter.specs.declared.Reply.the-variants.{Accepted, Refused}
 use Rattle.arbiter.specs.Device.{sized, formed, usable, clear, registersOf, slotsAt, starts, run, stepped, ticked, put, busy, writable, cleared}
-use Rattle.arbiter.specs.Calls.{Call, read, line, write, tick, reset, outcome, after, answer, afterAll, written, refuse, leave}
+use Rattle.arbiter.specs.declared.Call.{Call}
+use Rattle.arbiter.specs.declared.Call.the-variants.{Read, Line, Write, Tick, Reset}
+use Rattle.arbiter.specs.Calls.{outcome, after, answer, afterAll, written, refuse, leave}
 use Rattle.arbiter.specs.Sequences.{Reached, fresh, next, resets, Quiet, none, more, writesLength, NoLength, oneIfTick, ticks, Since, DoneAfter, OnTime, AsTheClock}
 use Rattle.arbiter.proofs.Tests.{and-left, and-right, cond-of, same}
 use Rattle.arbiter.proofs.Formed.{formed-true, usable-core}
@@ -114,7 +116,7 @@ pub record Taken (p e : ℕ) (a : Arbiter) : Type 0 where
   pub core-lt : p < a .cores
   pub pos : 1 ≤ e
   pub le : e ≤ a .slot
-  pub leaves : after (write p 0 e) a ≡ put a p (record { length = e; flags = 1; mask = registersOf a p .mask })
+  pub leaves : after (Write p 0 e) a ≡ put a p (record { length = e; flags = 1; mask = registersOf a p .mask })
 
 abbrev judged : ℕ → ℕ → Arbiter → Bool → Outcome
 judged p e a t = cond t (written p 0 e a) (refuse Register a)
@@ -122,7 +124,7 @@ judged p e a t = cond t (written p 0 e a) (refuse Register a)
 abbrev let-through : ℕ → ℕ → Arbiter → Bool → Outcome
 let-through p e a t = cond t (refuse Busy a) (leave (put a p (record { length = e; flags = 1; mask = registersOf a p .mask })))
 
-taken : (p e : ℕ) (a : Arbiter) → answer (write p 0 e) a ≡ Accepted → Taken p e a
+taken : (p e : ℕ) (a : Arbiter) → answer (Write p 0 e) a ≡ Accepted → Taken p e a
 unfolding outcome written writable
 taken p e a x =
     either (usable a p && writable (a .slot) 0 e)
@@ -152,7 +154,7 @@ clocked-same a n s s′ m x = record {
   moved = ap (λ (f : Frame). f .offset) m ∙ x .moved;
 }
 
-clocked-tick : (a : Arbiter) (n : ℕ) (s : Arbiter) → Clocked a n s → Clocked a (n + 1) (after tick s)
+clocked-tick : (a : Arbiter) (n : ℕ) (s : Arbiter) → Clocked a n s → Clocked a (n + 1) (after Tick s)
 unfolding ticked
 clocked-tick a n s x =
     subst (λ (b : Arbiter). Clocked a (n + 1) b) (sym (tick-leaves s (x .good))) record {
@@ -176,7 +178,7 @@ record Finished (p : ℕ) (s : Arbiter) : Type 0 where
   long-so : p < length (s .registers)
   done-so : registersOf s p .flags ≡ 4
 
-masked : (p n v : ℕ) (s : Arbiter) → eqb n 0 ≡ false → p < length (s .registers) → registersOf (after (write p n v) s) p .flags ≡ registersOf s p .flags
+masked : (p n v : ℕ) (s : Arbiter) → eqb n 0 ≡ false → p < length (s .registers) → registersOf (after (Write p n v) s) p .flags ≡ registersOf s p .flags
 unfolding outcome written
 masked p n v s z l =
     cond-of (λ (o : Outcome). registersOf (o .state) p .flags ≡ registersOf s p .flags) (usable s p && writable (s .slot) n v)
@@ -193,26 +195,26 @@ stepped-done v o r f =
     (λ t. f)
 
 finished-after : (p : ℕ) (c : Call) (s : Arbiter) → resets c ≡ false → writesLength p c ≡ false → Finished p s → Finished p (after c s)
-finished-after p (read q n) s e a x = subst (λ (b : Arbiter). Finished p b) (sym (read-leaves q n s)) x
-finished-after p (line q) s e a x = subst (λ (b : Arbiter). Finished p b) (sym (line-leaves q s)) x
-finished-after p (write q n v) s e a x =
+finished-after p (Read q n) s e a x = subst (λ (b : Arbiter). Finished p b) (sym (read-leaves q n s)) x
+finished-after p (Line q) s e a x = subst (λ (b : Arbiter). Finished p b) (sym (line-leaves q s)) x
+finished-after p (Write q n v) s e a x =
     let w = wrote q n v s in
-    let m = wrote-frame q s (after (write q n v) s) w in
+    let m = wrote-frame q s (after (Write q n v) s) w in
     record {
       formed-so = ap (λ (f : Frame). f .in-range) m ∙ x .formed-so;
       long-so = subst (λ (k : ℕ). p < k) (sym (ap (λ (f : Frame). f .many) m)) (x .long-so);
       done-so =
           same p q
-          (λ i. subst (λ (k : ℕ). registersOf (after (write k n v) s) p .flags ≡ 4) i (masked p n v s (ap (λ (b : Bool). b && eqb n 0) (sym (eq-eqb q p (sym i))) ∙ a) (x .long-so) ∙ x .done-so))
-          (λ i. ap (λ (r : Registers). r .flags) (wrote-other p q s (after (write q n v) s) i w) ∙ x .done-so);
+          (λ i. subst (λ (k : ℕ). registersOf (after (Write k n v) s) p .flags ≡ 4) i (masked p n v s (ap (λ (b : Bool). b && eqb n 0) (sym (eq-eqb q p (sym i))) ∙ a) (x .long-so) ∙ x .done-so))
+          (λ i. ap (λ (r : Registers). r .flags) (wrote-other p q s (after (Write q n v) s) i w) ∙ x .done-so);
     }
-finished-after p tick s e a x =
+finished-after p Tick s e a x =
     subst (λ (b : Arbiter). Finished p b) (sym (tick-leaves s (x .formed-so))) record {
       formed-so = ticked-formed s (x .formed-so);
       long-so = subst (λ (k : ℕ). p < k) (sym (ticked-length s)) (x .long-so);
       done-so = ap (λ (r : Registers). r .flags) (ticked-registers s p) ∙ stepped-done (slotsAt s p) (s .offset) (registersOf s p) (x .done-so);
     }
-finished-after p (reset c z) s e a x = subst (λ (b : Arbiter). Finished p b) (sym (reset-refused c z s e)) x
+finished-after p (Reset c z) s e a x = subst (λ (b : Arbiter). Finished p b) (sym (reset-refused c z s e)) x
 
 finished-all : (p : ℕ) (cs : List Call) (s : Arbiter) → Quiet cs → NoLength p cs → Finished p s → registersOf (afterAll cs s) p .flags ≡ 4
 unfolding afterAll
@@ -244,13 +246,13 @@ module _ (a : Arbiter) (p e : ℕ) (s₀ : Sane a) (t : Taken p e a) where
     all : length (s .registers) ≡ 16
     phase : InPhase n (registersOf s p)
 
-  begins : At 0 (after (write p 0 e) a)
+  begins : At 0 (after (Write p 0 e) a)
   begins =
       let r : Registers = record { length = e; flags = 1; mask = registersOf a p .mask } in
-      let n = wrote-frame p a (after (write p 0 e) a) (wrote p 0 e a) in
-      let there : registersOf (after (write p 0 e) a) p ≡ r = ap (λ (b : Arbiter). registersOf b p) (t .leaves) ∙ getD-set-same (a .registers) p r clear (omega (arith, s₀ .cores-all, few)) in
+      let n = wrote-frame p a (after (Write p 0 e) a) (wrote p 0 e a) in
+      let there : registersOf (after (Write p 0 e) a) p ≡ r = ap (λ (b : Arbiter). registersOf b p) (t .leaves) ∙ getD-set-same (a .registers) p r clear (omega (arith, s₀ .cores-all, few)) in
       record {
-        clocked = clocked-same a 0 a (after (write p 0 e) a) n (clocked-from a (s₀ .formed-is));
+        clocked = clocked-same a 0 a (after (Write p 0 e) a) n (clocked-from a (s₀ .formed-is));
         all = ap (λ (f : Frame). f .many) n ∙ s₀ .cores-all;
         phase = subst (λ (r′ : Registers). InPhase 0 r′) (sym there) (waiting (omega arith) refl refl);
       }
@@ -273,7 +275,7 @@ module _ (a : Arbiter) (p e : ℕ) (s₀ : Sane a) (t : Taken p e a) where
       own-phase (put-there r l f g u) =
           subst (λ (r′ : Registers). InPhase n r′) (sym (getD-set-same (s .registers) p r clear (omega (arith, x .all, few)))) (turned (registersOf s p) r u (x .phase))
 
-  next-registers : (n : ℕ) (s : Arbiter) → At n s → registersOf (after tick s) p ≡ stepped v ((a .offset + n) % periodOf v) (registersOf s p)
+  next-registers : (n : ℕ) (s : Arbiter) → At n s → registersOf (after Tick s) p ≡ stepped v ((a .offset + n) % periodOf v) (registersOf s p)
   next-registers n s x =
       ap (λ (b : Arbiter). registersOf b p) (tick-leaves s (x .clocked .good)) ∙ ticked-registers s p
       ∙ ap (λ (w : Slots). stepped w (s .offset) (registersOf s p)) (kept (x .clocked)) ∙ ap (λ (o : ℕ). stepped v o (registersOf s p)) (x .clocked .moved)
@@ -281,37 +283,37 @@ module _ (a : Arbiter) (p e : ℕ) (s₀ : Sane a) (t : Taken p e a) where
       kept : Clocked a n s → slotsAt s p ≡ v
       kept y = let c = y .cores-kept in let l = y .slot-kept in λ i. record { cores = c i; slot = l i; core = p }
 
-  next-at : (n : ℕ) (s : Arbiter) → At n s → n + 1 < due → At (n + 1) (after tick s)
+  next-at : (n : ℕ) (s : Arbiter) → At n s → n + 1 < due → At (n + 1) (after Tick s)
   next-at n s x l = record {
     clocked = clocked-tick a n s (x .clocked);
     all = ap (λ (b : Arbiter). length (b .registers)) (tick-leaves s (x .clocked .good)) ∙ ticked-length s ∙ x .all;
     phase = subst (λ (r : Registers). InPhase (n + 1) r) (sym (next-registers n s x)) (step-next v ok e (t .pos) (t .le) (a .offset) off n (registersOf s p) (x .phase) .0 l);
   }
 
-  done-at : (n : ℕ) (s : Arbiter) → At n s → n + 1 ≡ due → registersOf (after tick s) p .flags ≡ 4
+  done-at : (n : ℕ) (s : Arbiter) → At n s → n + 1 ≡ due → registersOf (after Tick s) p .flags ≡ 4
   done-at n s x l = subst (λ (r : Registers). r .flags ≡ 4) (sym (next-registers n s x)) (step-next v ok e (t .pos) (t .le) (a .offset) off n (registersOf s p) (x .phase) .1 l)
 
   all-at : (cs : List Call) → Quiet cs → (n : ℕ) (s : Arbiter) → At n s → n + ticks cs < due → At (n + ticks cs) (afterAll cs s)
   unfolding ticks afterAll
   all-at [] none n s x l = subst (λ (m : ℕ). At m s) (sym (add-zero n)) x
-  all-at (read q k ∷ cs) (more h qs) n s x l =
-      subst (λ (m : ℕ). At m (afterAll cs (after (read q k) s))) (omega arith) (all-at cs qs n (after (read q k) s) (subst (λ (b : Arbiter). At n b) (sym (read-leaves q k s)) x) (omega arith))
-  all-at (line q ∷ cs) (more h qs) n s x l =
-      subst (λ (m : ℕ). At m (afterAll cs (after (line q) s))) (omega arith) (all-at cs qs n (after (line q) s) (subst (λ (b : Arbiter). At n b) (sym (line-leaves q s)) x) (omega arith))
-  all-at (write q k y ∷ cs) (more h qs) n s x l =
-      subst (λ (m : ℕ). At m (afterAll cs (after (write q k y) s))) (omega arith) (all-at cs qs n (after (write q k y) s) (wrote-at n q s (after (write q k y) s) (wrote q k y s) x) (omega arith))
-  all-at (tick ∷ cs) (more h qs) n s x l =
-      subst (λ (m : ℕ). At m (afterAll cs (after tick s))) (omega arith) (all-at cs qs (n + 1) (after tick s) (next-at n s x (omega arith)) (omega arith))
-  all-at (reset c z ∷ cs) (more h qs) n s x l =
-      subst (λ (m : ℕ). At m (afterAll cs (after (reset c z) s))) (omega arith) (all-at cs qs n (after (reset c z) s) (subst (λ (b : Arbiter). At n b) (sym (reset-refused c z s h)) x) (omega arith))
+  all-at (Read q k ∷ cs) (more h qs) n s x l =
+      subst (λ (m : ℕ). At m (afterAll cs (after (Read q k) s))) (omega arith) (all-at cs qs n (after (Read q k) s) (subst (λ (b : Arbiter). At n b) (sym (read-leaves q k s)) x) (omega arith))
+  all-at (Line q ∷ cs) (more h qs) n s x l =
+      subst (λ (m : ℕ). At m (afterAll cs (after (Line q) s))) (omega arith) (all-at cs qs n (after (Line q) s) (subst (λ (b : Arbiter). At n b) (sym (line-leaves q s)) x) (omega arith))
+  all-at (Write q k y ∷ cs) (more h qs) n s x l =
+      subst (λ (m : ℕ). At m (afterAll cs (after (Write q k y) s))) (omega arith) (all-at cs qs n (after (Write q k y) s) (wrote-at n q s (after (Write q k y) s) (wrote q k y s) x) (omega arith))
+  all-at (Tick ∷ cs) (more h qs) n s x l =
+      subst (λ (m : ℕ). At m (afterAll cs (after Tick s))) (omega arith) (all-at cs qs (n + 1) (after Tick s) (next-at n s x (omega arith)) (omega arith))
+  all-at (Reset c z ∷ cs) (more h qs) n s x l =
+      subst (λ (m : ℕ). At m (afterAll cs (after (Reset c z) s))) (omega arith) (all-at cs qs n (after (Reset c z) s) (subst (λ (b : Arbiter). At n b) (sym (reset-refused c z s h)) x) (omega arith))
 
   timed : OnTime a p e
   timed = record {
-    no-sooner = λ cs qs l. phase-busy v ok e (t .pos) (t .le) (a .offset) off (all-at cs qs 0 (after (write p 0 e) a) begins (omega arith) .phase);
+    no-sooner = λ cs qs l. phase-busy v ok e (t .pos) (t .le) (a .offset) off (all-at cs qs 0 (after (Write p 0 e) a) begins (omega arith) .phase);
     done = λ cs ds qs l rs us.
-        let s = afterAll cs (after (write p 0 e) a) in
-        let x = all-at cs qs 0 (after (write p 0 e) a) begins (omega arith) in
-        finished-all p ds (after tick s) rs us (record {
+        let s = afterAll cs (after (Write p 0 e) a) in
+        let x = all-at cs qs 0 (after (Write p 0 e) a) begins (omega arith) in
+        finished-all p ds (after Tick s) rs us (record {
           formed-so = ap formed (tick-leaves s (x .clocked .good)) ∙ ticked-formed s (x .clocked .good);
           long-so = omega (arith, ap (λ (b : Arbiter). length (b .registers)) (tick-leaves s (x .clocked .good)), ticked-length s, x .all, few);
           done-so = done-at (0 + ticks cs) s x (omega arith);
@@ -319,17 +321,17 @@ module _ (a : Arbiter) (p e : ℕ) (s₀ : Sane a) (t : Taken p e a) where
   }
 
 -- W7: "In states reached by calls from a reset, a length written at offset o is done after wait + length ticks and no sooner, if no reset comes between."
-pub on-time : {a : Arbiter} → Reached a → (p e : ℕ) → answer (write p 0 e) a ≡ Accepted → OnTime a p e
+pub on-time : {a : Arbiter} → Reached a → (p e : ℕ) → answer (Write p 0 e) a ≡ Accepted → OnTime a p e
 on-time {a} r p e x = timed a p e (reached-sane r) (taken p e a x)
 
 -- ---- the clock of the arbiter is the clock of runs
 
 clocked-after : (a : Arbiter) (n : ℕ) (s : Arbiter) (c : Call) → resets c ≡ false → Clocked a n s → Clocked a (n + oneIfTick c) (after c s)
-clocked-after a n s (read q k) e x = rw (add-zero n, read-leaves q k s) x
-clocked-after a n s (line q) e x = rw (add-zero n, line-leaves q s) x
-clocked-after a n s (write q k y) e x = rw (add-zero n) (clocked-same a n s (after (write q k y) s) (wrote-frame q s (after (write q k y) s) (wrote q k y s)) x)
-clocked-after a n s tick e x = clocked-tick a n s x
-clocked-after a n s (reset c z) e x = rw (add-zero n, reset-refused c z s e) x
+clocked-after a n s (Read q k) e x = rw (add-zero n, read-leaves q k s) x
+clocked-after a n s (Line q) e x = rw (add-zero n, line-leaves q s) x
+clocked-after a n s (Write q k y) e x = rw (add-zero n) (clocked-same a n s (after (Write q k y) s) (wrote-frame q s (after (Write q k y) s) (wrote q k y s)) x)
+clocked-after a n s Tick e x = clocked-tick a n s x
+clocked-after a n s (Reset c z) e x = rw (add-zero n, reset-refused c z s e) x
 
 clocked-all : (a : Arbiter) (cs : List Call) → Quiet cs → (n : ℕ) (s : Arbiter) → Clocked a n s → Clocked a (n + ticks cs) (afterAll cs s)
 unfolding ticks afterAll
@@ -344,7 +346,7 @@ clock a f cs qs =
     ∙ ap (λ (m : ℕ). (a .offset + m) % (a .cores * a .slot)) (omega arith)
 
 -- an access of a run from the arbiter's offset takes as many cycles as the device takes ticks
-pub as-the-clock : {a : Arbiter} → Reached a → (p e : ℕ) → answer (write p 0 e) a ≡ Accepted → AsTheClock a p e
+pub as-the-clock : {a : Arbiter} → Reached a → (p e : ℕ) → answer (Write p 0 e) a ≡ Accepted → AsTheClock a p e
 unfolding equal
 as-the-clock {a} re p e x count s r =
     let sn = reached-sane re in
@@ -376,21 +378,21 @@ one-more {a} c e s = record {
   sized-is = s .sized-is;
   calls = s .calls ++ (c ∷ []);
   quiet = quiet-one c e (s .quiet);
-  leads = ap (after c) (s .leads) ∙ sym (after-one (s .calls) c (after (reset (s .cores) (s .slot)) (s .before)));
+  leads = ap (after c) (s .leads) ∙ sym (after-one (s .calls) c (after (Reset (s .cores) (s .slot)) (s .before)));
 }
 
-from-reset : (a : Arbiter) (cores slot : ℕ) → sized cores slot ≡ true → Since (after (reset cores slot) a)
+from-reset : (a : Arbiter) (cores slot : ℕ) → sized cores slot ≡ true → Since (after (Reset cores slot) a)
 unfolding afterAll
 from-reset a cores slot e = record { before = a; cores = cores; slot = slot; sized-is = e; calls = []; quiet = none; leads = refl }
 
 -- a state that is reached has a last reset
 pub since : {a : Arbiter} → Reached a → Since a
 since (fresh a cores slot e) = from-reset a cores slot e
-since (next {a} r (read p n)) = one-more (read p n) refl (since r)
-since (next {a} r (line p)) = one-more (line p) refl (since r)
-since (next {a} r (write p n v)) = one-more (write p n v) refl (since r)
-since (next {a} r tick) = one-more tick refl (since r)
-since (next {a} r (reset cores slot)) = either (sized cores slot) (λ e. from-reset a cores slot e) (λ e. one-more (reset cores slot) e (since r))
+since (next {a} r (Read p n)) = one-more (Read p n) refl (since r)
+since (next {a} r (Line p)) = one-more (Line p) refl (since r)
+since (next {a} r (Write p n v)) = one-more (Write p n v) refl (since r)
+since (next {a} r Tick) = one-more Tick refl (since r)
+since (next {a} r (Reset cores slot)) = either (sized cores slot) (λ e. from-reset a cores slot e) (λ e. one-more (Reset cores slot) e (since r))
 
 -- the offset is the number of ticks since then, modulo P
 pub offset-since : {b : Arbiter} (s : Since b) → b .offset ≡ ticks (s .calls) % (s .cores * s .slot)

@@ -7,19 +7,11 @@ use Rattle.image.specs.declared.Refusal.{Refusal}
 use Rattle.image.specs.declared.Refusal.the-variants.{Register, Busy}
 use Rattle.arbiter.specs.Device.{sized, formed, usable, registersOf, put, registerAt, lineOf, writable, busy, cleared, ticked}
 use Rattle.arbiter.specs.declared.Arbiter.{Arbiter}
+use Rattle.arbiter.specs.declared.Call.{Call}
+use Rattle.arbiter.specs.declared.Call.the-variants.{Read, Line, Write, Tick, Reset}
 use Rattle.arbiter.specs.declared.Outcome.{Outcome}
 use Rattle.arbiter.specs.declared.Reply.{Reply}
 use Rattle.arbiter.specs.declared.Reply.the-variants.{Accepted, Value, Refused}
-
-pub data Call : Type 0 where
-  -- a core's register; a core's interrupt line
-  read : (core register : ℕ) → Call
-  line : (core : ℕ) → Call
-  -- a value to a core's register
-  write : (core register value : ℕ) → Call
-  tick : Call
-  -- "A reset names cores and slot"
-  reset : (cores slot : ℕ) → Call
 
 -- "Both have place 0 and leave the state unchanged."
 abbrev pub refuse : Refusal → Arbiter → Outcome
@@ -42,11 +34,11 @@ written p n v a =
 
 -- What a call answers, and the state that it leaves. "15 register, judged first"; a reset asks nothing of the state.
 unfoldable pub outcome : Call → Arbiter → Outcome
-outcome (read p n) a = cond (usable a p && ltb n 3) (tell (registerAt n (registersOf a p)) a) (refuse Register a)
-outcome (line p) a = cond (usable a p) (tell (lineOf (registersOf a p)) a) (refuse Register a)
-outcome (write p n v) a = cond (usable a p && writable (a .slot) n v) (written p n v a) (refuse Register a)
-outcome tick a = cond (formed a) (leave (ticked a)) (refuse Register a)
-outcome (reset cores slot) a = cond (sized cores slot) (leave (cleared cores slot)) (refuse Register a)
+outcome (Read p n) a = cond (usable a p && ltb n 3) (tell (registerAt n (registersOf a p)) a) (refuse Register a)
+outcome (Line p) a = cond (usable a p) (tell (lineOf (registersOf a p)) a) (refuse Register a)
+outcome (Write p n v) a = cond (usable a p && writable (a .slot) n v) (written p n v a) (refuse Register a)
+outcome Tick a = cond (formed a) (leave (ticked a)) (refuse Register a)
+outcome (Reset cores slot) a = cond (sized cores slot) (leave (cleared cores slot)) (refuse Register a)
 
 -- the state that a call leaves
 abbrev pub after : Call → Arbiter → Arbiter

@@ -7,7 +7,8 @@ use Rattle.bus.specs.Waits.{Ranges}
 use Rattle.image.specs.declared.Refusal.{Refusal}
 use Rattle.image.specs.declared.Refusal.the-variants.{Register, Busy}
 use Rattle.arbiter.specs.Device.{registersOf}
-use Rattle.arbiter.specs.Calls.{Call, read, line, write, tick, reset}
+use Rattle.arbiter.specs.declared.Call.{Call}
+use Rattle.arbiter.specs.declared.Call.the-variants.{Read, Line, Write, Tick, Reset}
 use Rattle.arbiter.specs.declared.Arbiter.{Arbiter}
 use Rattle.arbiter.specs.declared.Registers.{Registers}
 
@@ -36,24 +37,24 @@ pub record WellFormed (a : Arbiter) : Type 0 where
 
 -- "a core, register or value out of range (a reset's too), a write to flags"
 pub data Misnamed (a : Arbiter) : Call → Type 0 where
-  read-core : {p n : ℕ} → a .cores ≤ p → Misnamed a (read p n)
-  read-register : {p n : ℕ} → 3 ≤ n → Misnamed a (read p n)
-  line-core : {p : ℕ} → a .cores ≤ p → Misnamed a (line p)
-  write-core : {p n v : ℕ} → a .cores ≤ p → Misnamed a (write p n v)
-  write-register : {p n v : ℕ} → 3 ≤ n → Misnamed a (write p n v)
-  write-flags : {p v : ℕ} → Misnamed a (write p 1 v)
-  no-length : {p : ℕ} → Misnamed a (write p 0 0)
-  length-above : {p v : ℕ} → a .slot < v → Misnamed a (write p 0 v)
-  mask-above : {p v : ℕ} → 1 < v → Misnamed a (write p 2 v)
-  reset-size : {cores slot : ℕ} → (Sized cores slot → ⊥) → Misnamed a (reset cores slot)
+  read-core : {p n : ℕ} → a .cores ≤ p → Misnamed a (Read p n)
+  read-register : {p n : ℕ} → 3 ≤ n → Misnamed a (Read p n)
+  line-core : {p : ℕ} → a .cores ≤ p → Misnamed a (Line p)
+  write-core : {p n v : ℕ} → a .cores ≤ p → Misnamed a (Write p n v)
+  write-register : {p n v : ℕ} → 3 ≤ n → Misnamed a (Write p n v)
+  write-flags : {p v : ℕ} → Misnamed a (Write p 1 v)
+  no-length : {p : ℕ} → Misnamed a (Write p 0 0)
+  length-above : {p v : ℕ} → a .slot < v → Misnamed a (Write p 0 v)
+  mask-above : {p v : ℕ} → 1 < v → Misnamed a (Write p 2 v)
+  reset-size : {cores slot : ℕ} → (Sized cores slot → ⊥) → Misnamed a (Reset cores slot)
 
 -- "save for a reset"
 abbrev pub AsksState : Call → Type 0
-AsksState (read p n) = Unit {0}
-AsksState (line p) = Unit {0}
-AsksState (write p n v) = Unit {0}
-AsksState tick = Unit {0}
-AsksState (reset cores slot) = ⊥
+AsksState (Read p n) = Unit {0}
+AsksState (Line p) = Unit {0}
+AsksState (Write p n v) = Unit {0}
+AsksState Tick = Unit {0}
+AsksState (Reset cores slot) = ⊥
 
 -- for what a call is refused
 pub data RefusedFor (a : Arbiter) : Call → Refusal → Type 0 where
@@ -62,4 +63,4 @@ pub data RefusedFor (a : Arbiter) : Call → Refusal → Type 0 where
   -- .. "or, save for a reset, a state with a number out of range"
   malformed : {c : Call} → AsksState c → (WellFormed a → ⊥) → RefusedFor a c Register
   -- 16: "a length written while waiting or running"
-  still-busy : {p v : ℕ} → WellFormed a → (Misnamed a (write p 0 v) → ⊥) → IsBusy (registersOf a p) → RefusedFor a (write p 0 v) Busy
+  still-busy : {p v : ℕ} → WellFormed a → (Misnamed a (Write p 0 v) → ⊥) → IsBusy (registersOf a p) → RefusedFor a (Write p 0 v) Busy

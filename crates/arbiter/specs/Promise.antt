@@ -2,7 +2,8 @@
 use mathlib.Core.Path.{_≡_}
 use Prim.Native.Nat.{ℕ}
 use Rattle.image.specs.declared.Refusal.{Refusal}
-use Rattle.arbiter.specs.Calls.{Call, after, answer}
+use Rattle.arbiter.specs.declared.Call.{Call}
+use Rattle.arbiter.specs.Calls.{after, answer}
 use Rattle.arbiter.specs.Conditions.{RefusedFor}
 use Rattle.arbiter.specs.declared.Arbiter.{Arbiter}
 use Rattle.arbiter.specs.declared.Reply.{Reply}

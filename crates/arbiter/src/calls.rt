@@ -2,8 +2,10 @@
 ghost use mathlib.Core.Path.{_≡_};
 ghost use Prim.Native.Nat.{_≤_, _<_};
 ghost use Rattle.arbiter.specs.Device.{registerAt, lineOf, writable, busy};
-ghost use Rattle.arbiter.specs.Calls.{outcome, read, line, write, tick, reset, written, tell, leave};
+ghost use Rattle.arbiter.specs.declared.Call.the-variants.{Read, Line, Write, Tick, Reset};
+ghost use Rattle.arbiter.specs.Calls.{outcome, written, tell, leave};
 use crate::Arbiter;
+use crate::Call;
 use crate::Outcome;
 use crate::Registers;
 use crate::Reply;
@@ -113,7 +115,7 @@ fn store(s: Arbiter, core: usize, register: usize, value: u8) -> Outcome
 }
 
 pub fn on_read(s: Arbiter, core: usize, register: usize) -> Outcome
-    ensures { λ o. ⌜ o ≡ outcome (read core register) s ⌝ }
+    ensures { λ o. ⌜ o ≡ outcome (Read core register) s ⌝ }
 {
     if !core_ok(s, core) {
         return refuse(Refusal::Register, s);
@@ -125,7 +127,7 @@ pub fn on_read(s: Arbiter, core: usize, register: usize) -> Outcome
 }
 
 pub fn on_line(s: Arbiter, core: usize) -> Outcome
-    ensures { λ o. ⌜ o ≡ outcome (line core) s ⌝ }
+    ensures { λ o. ⌜ o ≡ outcome (Line core) s ⌝ }
 {
     if !core_ok(s, core) {
         return refuse(Refusal::Register, s);
@@ -134,7 +136,7 @@ pub fn on_line(s: Arbiter, core: usize) -> Outcome
 }
 
 pub fn on_write(s: Arbiter, core: usize, register: usize, value: usize) -> Outcome
-    ensures { λ o. ⌜ o ≡ outcome (write core register value) s ⌝ }
+    ensures { λ o. ⌜ o ≡ outcome (Write core register value) s ⌝ }
 {
     if !core_ok(s, core) {
         return refuse(Refusal::Register, s);
@@ -146,7 +148,7 @@ pub fn on_write(s: Arbiter, core: usize, register: usize, value: usize) -> Outco
 }
 
 pub fn on_tick(s: Arbiter) -> Outcome
-    ensures { λ o. ⌜ o ≡ outcome tick s ⌝ }
+    ensures { λ o. ⌜ o ≡ outcome Tick s ⌝ }
 {
     if !state_ok(s) {
         return refuse(Refusal::Register, s);
@@ -155,7 +157,7 @@ pub fn on_tick(s: Arbiter) -> Outcome
 }
 
 pub fn on_reset(s: Arbiter, cores: usize, slot: usize) -> Outcome
-    ensures { λ o. ⌜ o ≡ outcome (reset cores slot) s ⌝ }
+    ensures { λ o. ⌜ o ≡ outcome (Reset cores slot) s ⌝ }
 {
     if !image::rows::bus_ok(cores, slot, 0) {
         return refuse(Refusal::Register, s);
@@ -172,4 +174,17 @@ pub fn on_reset(s: Arbiter, cores: usize, slot: usize) -> Outcome
         registers: [clear; 16],
     };
     accept(fresh)
+}
+
+// Any call.
+pub fn on(s: Arbiter, c: Call) -> Outcome
+    ensures { λ o. ⌜ o ≡ outcome c s ⌝ }
+{
+    match c {
+        Call::Read(core, register) => on_read(s, core, register),
+        Call::Line(core) => on_line(s, core),
+        Call::Write(core, register, value) => on_write(s, core, register, value),
+        Call::Tick => on_tick(s),
+        Call::Reset(cores, slot) => on_reset(s, cores, slot),
+    }
 }

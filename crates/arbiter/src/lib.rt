@@ -13,7 +13,7 @@
 // since the reset modulo P (`offset-since` in proofs/Timing.antt).
 //
 // src/: states (what a state may hold), ticks, calls (each entry's call with the state by value), bytes (the state as 51 bytes).
-ghost use Rattle.arbiter.specs.Calls.{read, line, write, tick, reset};
+ghost use Rattle.arbiter.specs.declared.Call.the-variants.{Read, Line, Write, Tick, Reset};
 ghost use Rattle.arbiter.specs.Promise.{Answers};
 use crate::calls::on_line;
 use crate::calls::on_read;
@@ -42,6 +42,18 @@ pub struct Arbiter {
     pub registers: [Registers; 16],
 }
 
+// A call: what an entry is asked.
+pub enum Call {
+    // a core's register; a core's interrupt line
+    Read(usize, usize),
+    Line(usize),
+    // to a core's register, a value
+    Write(usize, usize, usize),
+    Tick,
+    // the cores and the slot length of the bus
+    Reset(usize, usize),
+}
+
 // The answer to a call; a refusal has its place beside it.
 pub enum Reply {
     Accepted,
@@ -57,7 +69,7 @@ pub struct Outcome {
 
 // A core's register.
 pub fn read(a: &mut Arbiter, core: usize, register: usize) -> Reply
-    ensures { λ r. ⌜ Answers (read core register) (now (a .entry)) (now (a .exit)) r ⌝ }
+    ensures { λ r. ⌜ Answers (Read core register) (now (a .entry)) (now (a .exit)) r ⌝ }
 {
     let o = on_read(*a, core, register);
     *a = o.state;
@@ -66,7 +78,7 @@ pub fn read(a: &mut Arbiter, core: usize, register: usize) -> Reply
 
 // A core's interrupt line.
 pub fn line(a: &mut Arbiter, core: usize) -> Reply
-    ensures { λ r. ⌜ Answers (line core) (now (a .entry)) (now (a .exit)) r ⌝ }
+    ensures { λ r. ⌜ Answers (Line core) (now (a .entry)) (now (a .exit)) r ⌝ }
 {
     let o = on_line(*a, core);
     *a = o.state;
@@ -75,7 +87,7 @@ pub fn line(a: &mut Arbiter, core: usize) -> Reply
 
 // A value to a core's register.
 pub fn write(a: &mut Arbiter, core: usize, register: usize, value: usize) -> Reply
-    ensures { λ r. ⌜ Answers (write core register value) (now (a .entry)) (now (a .exit)) r ⌝ }
+    ensures { λ r. ⌜ Answers (Write core register value) (now (a .entry)) (now (a .exit)) r ⌝ }
 {
     let o = on_write(*a, core, register, value);
     *a = o.state;
@@ -84,7 +96,7 @@ pub fn write(a: &mut Arbiter, core: usize, register: usize, value: usize) -> Rep
 
 // One cycle of the bus.
 pub fn tick(a: &mut Arbiter) -> Reply
-    ensures { λ r. ⌜ Answers tick (now (a .entry)) (now (a .exit)) r ⌝ }
+    ensures { λ r. ⌜ Answers Tick (now (a .entry)) (now (a .exit)) r ⌝ }
 {
     let o = on_tick(*a);
     *a = o.state;
@@ -93,7 +105,7 @@ pub fn tick(a: &mut Arbiter) -> Reply
 
 // A bus of this many cores and this slot length, with all registers and the offset clear.
 pub fn reset(a: &mut Arbiter, cores: usize, slot: usize) -> Reply
-    ensures { λ r. ⌜ Answers (reset cores slot) (now (a .entry)) (now (a .exit)) r ⌝ }
+    ensures { λ r. ⌜ Answers (Reset cores slot) (now (a .entry)) (now (a .exit)) r ⌝ }
 {
     let o = on_reset(*a, cores, slot);
     *a = o.state;

@@ -1,10 +1,10 @@
 -- What each return of the calls leaves is what the definitions say.
-use borrow.Author.Tests.{lt-ltb, le-ltb, ltb-false, leb-true, eqb-true}
+use borrow.Author.Tests.{lt-ltb, le-ltb, ltb-false}
 use mathlib.Core.Path.{_≡_, refl, sym, _∙_, ap, subst}
 use mathlib.Core.Bool.{Bool, true, false, cond}
 use mathlib.Core.List.{List, [], _∷_, _++_}
 use lib.ListN.{length, getD, take, drop, set, List·getD-append}
-use lib.Dec.{leb, ltb, eqb}
+use lib.Dec.{ltb}
 use lib.Seq.{take-all}
 use native.Mathlib.Omega.{arith}
 use Prim.Native.Nat.{ℕ, _*_, _≤_, _<_}
@@ -37,36 +37,16 @@ use Rattle.graph.specs.Table.{Result as FinishesResult, resultBy as finishesBy,
 use Rattle.graph.specs.Promise.{Equal as FinishesEqual}
 use Rattle.graph.proofs.Tables.{answer-given, finishes-length}
 use Rattle.graph.proofs.Promises.{finishing}
-use Rattle.image.proofs.Numbers.{both}
-use Rattle.arbiter.specs.Calls.{Call, outcome as callOutcome}
-use Rattle.arbiter.specs.Bytes.{bytesOf, stateOf}
-use Rattle.arbiter.specs.declared.Arbiter.{Arbiter}
-use Rattle.arbiter.specs.declared.Outcome.{Outcome as CallOutcome}
-use Rattle.arbiter.specs.declared.Reply.{Reply}
-use Rattle.arbiter.specs.declared.Reply.the-variants.{Accepted as Taken, Value, Refused as RefusedCall}
-use Rattle.linked.specs.Linked.{doneInto, refusedInto, judgedInto, judgeCall, told, beside, toldCall, figuresCall, WholeFigures, changedInto, editCall, WholeEdit, previewCall, WholePreview, finishesInto, finishesCall, WholeFinishes, repliedInto, room, arbiterInto, arbiterCall}
+use Rattle.lent.specs.Answers.{doneInto, refusedInto, beside}
+use Rattle.linked.specs.Linked.{judgedInto, judgeCall, told, toldCall, figuresCall, WholeFigures, changedInto, editCall, WholeEdit, previewCall, WholePreview, finishesInto, finishesCall, WholeFinishes}
 
 -- ---- the first places of a slice
-
-pub put-two : (s : List ℕ) (a b : ℕ) → 2 ≤ length s → set (set s 0 a) 1 b ≡ a ∷ b ∷ drop 2 s
-put-two [] a b h = absurd (omega arith)
-put-two (x ∷ []) a b h = absurd (omega arith)
-put-two (x ∷ y ∷ s) a b h = refl
 
 pub put-third : (s : List ℕ) (a b c : ℕ) → 3 ≤ length s → set (a ∷ b ∷ drop 2 s) 2 c ≡ a ∷ b ∷ c ∷ drop 3 s
 put-third [] a b c h = absurd (omega arith)
 put-third (x ∷ []) a b c h = absurd (omega arith)
 put-third (x ∷ y ∷ []) a b c h = absurd (omega arith)
 put-third (x ∷ y ∷ z ∷ s) a b c h = refl
-
--- ---- nothing to tell, and a refusal
-
-pub done-leaves : (lent after : List ℕ) → after ≡ 0 ∷ 0 ∷ drop 2 lent → doneInto lent ≡ (0, after)
-done-leaves lent after h = ap (λ (l : List ℕ). (0, l)) (sym h)
-
-pub refusal-leaves : (lent : List ℕ) (r : Refusal) (n place : ℕ) (after : List ℕ) → n ≡ numberOf r → after ≡ n ∷ place ∷ drop 2 lent
-    → refusedInto (numberOf r) place lent ≡ (1, after)
-refusal-leaves lent r n place after p h = ap (λ (m : ℕ). (1, m ∷ place ∷ drop 2 lent)) (sym p) ∙ ap (λ (l : List ℕ). (1, l)) (sym h)
 
 -- ---- judging
 
@@ -243,36 +223,3 @@ module _ (table before lent : List ℕ) where
         finishing table n ok after
             (λ i l. rw f (List·getD-append (finishesOf table) (drop 64 before) 0 i (omega (arith, finishes-length table, ok .size .most)))),
       )
-
--- ---- the arbiter
-
-module _ (lent : List ℕ) (r : Reply) where
-  pub replied-accepted : (call : ℕ × List ℕ) → r ≡ Taken → doneInto lent ≡ call → repliedInto r lent ≡ call
-  replied-accepted call e h = ap (λ (x : Reply). repliedInto x lent) e ∙ h
-
-  pub replied-value : (v : ℕ) (after : List ℕ) → r ≡ Value v → after ≡ 0 ∷ v ∷ drop 2 lent → repliedInto r lent ≡ (0, after)
-  replied-value v after e h = ap (λ (x : Reply). repliedInto x lent) e ∙ ap (λ (l : List ℕ). (0, l)) (sym h)
-
-  pub replied-refused : (x : Refusal) (place : ℕ) (call : ℕ × List ℕ) → r ≡ RefusedCall x place → refusedInto (numberOf x) place lent ≡ call
-      → repliedInto r lent ≡ call
-  replied-refused x place call e h = ap (λ (y : Reply). repliedInto y lent) e ∙ h
-
-pub concluded : (o : CallOutcome) (lent after said : List ℕ) (status : ℕ) → after ≡ bytesOf (o .state) → repliedInto (o .reply) lent ≡ (status, said)
-    → arbiterInto o lent ≡ (status, after, said)
-concluded o lent after said status p q = ap (beside (bytesOf (o .state))) q ∙ ap (λ (l : List ℕ). (status, l, said)) (sym p)
-
-pub has-room : (s lent : List ℕ) → room s lent ≡ true → (length s ≡ 51) × (2 ≤ length lent)
-unfolding room
-has-room s lent e =
-    let p = both (leb 2 (length lent)) (eqb (length s) 51) e in
-    (eqb-true (length s) 51 (p .1), leb-true 2 (length lent) (p .0))
-
-module _ (c : Call) (s lent : List ℕ) where
-  pub no-room : room s lent ≡ false → arbiterCall c s lent ≡ (2, s, lent)
-  unfolding arbiterCall
-  no-room e = rw e
-
-  pub with-room : room s lent ≡ true → (a : Arbiter) → a ≡ stateOf s → (o : CallOutcome) → o ≡ callOutcome c a → (call : ℕ × List ℕ × List ℕ)
-      → arbiterInto o lent ≡ call → arbiterCall c s lent ≡ call
-  unfolding arbiterCall
-  with-room e a p o q call h = rw (e, ← p, ← q) h

@@ -6,13 +6,13 @@
 -- Statuses: 0 accepted, done or given, 1 refused, 2 the answer or the finishes have too few places, or the arbiter's state is not 51 bytes long.
 -- With 2 every slice keeps its contents.
 use mathlib.Core.Path.{_≡_}
-use mathlib.Core.Bool.{Bool, cond, _&&_}
+use mathlib.Core.Bool.{cond}
 use mathlib.Core.List.{List, _∷_, _++_}
 use lib.ListN.{length, getD, drop}
-use lib.Dec.{leb, ltb, eqb}
+use lib.Dec.{ltb}
 use Prim.Native.Nat.{ℕ, _≤_}
 use Rattle.image.specs.Nodes.{taskOf}
-use Rattle.image.specs.Judged.{numberOf, Outcome, accepted, refused as rejected, judged, outcome}
+use Rattle.image.specs.Judged.{Outcome, accepted, refused as rejected, judged, outcome}
 use Rattle.image.specs.declared.Task.{Task}
 use Rattle.image.specs.declared.Verdict.the-variants.{Accepted}
 use Rattle.figures.specs.Answers.{Result, given, refused, periodOf, answer, tableAfter}
@@ -22,18 +22,7 @@ use Rattle.edits.specs.Promise.{Editable, Leaves}
 use Rattle.graph.specs.Table.{Result as FinishesResult, finished, refused as refusedTable, answer as finishesAnswer}
 use Rattle.graph.specs.Conditions.{AcceptedTable}
 use Rattle.graph.specs.Promise.{Finishing}
-use Rattle.arbiter.specs.Calls.{Call, outcome as callOutcome}
-use Rattle.arbiter.specs.Bytes.{bytesOf, stateOf}
-use Rattle.arbiter.specs.declared.Outcome.{Outcome as CallOutcome}
-use Rattle.arbiter.specs.declared.Reply.{Reply}
-use Rattle.arbiter.specs.declared.Reply.the-variants.{Accepted as Taken, Value, Refused as RefusedCall}
-
--- the status and the answer at exit, where there is nothing to tell and where a call is refused; later places keep their contents
-abbrev pub doneInto : List ℕ → ℕ × List ℕ
-doneInto lent = (0, 0 ∷ 0 ∷ drop 2 lent)
-
-abbrev pub refusedInto : ℕ → ℕ → List ℕ → ℕ × List ℕ
-refusedInto number place lent = (1, number ∷ place ∷ drop 2 lent)
+use Rattle.lent.specs.Answers.{doneInto, refusedInto, beside}
 
 -- judging: 0 and the period, or the number and the place of a refusal
 abbrev pub judgedInto : Outcome → List ℕ → ℕ × List ℕ
@@ -48,10 +37,6 @@ judgeCall image lent = cond (ltb (length lent) 2) (2, lent) (judgedInto (outcome
 abbrev pub told : Result → List ℕ → ℕ × List ℕ
 told (given tight published exits) lent = (0, tight ∷ published ∷ exits ∷ drop 3 lent)
 told (refused number place) lent = refusedInto number place lent
-
--- the status, another slice and the answer at exit
-abbrev pub beside : List ℕ → ℕ × List ℕ → ℕ × List ℕ × List ℕ
-beside after call = (call .0, after, call .1)
 
 -- a call for figures, whose table at exit is `filled`
 unfoldable pub toldCall : Result → List ℕ → List ℕ → List ℕ → ℕ × List ℕ × List ℕ
@@ -108,23 +93,3 @@ finishesCall table before lent =
 abbrev pub WholeFinishes : List ℕ → List ℕ → List ℕ → ℕ → List ℕ → Type 0
 WholeFinishes table before lent status after = (n : ℕ) → AcceptedTable table n → 64 ≤ length before → 2 ≤ length lent
     → (status ≡ 0) × Finishing table n after
-
--- ---- the arbiter, over the 51 bytes of its state
-
--- "the answer 0 and the value read (0 where nothing is read)", or the number and the place
-abbrev pub repliedInto : Reply → List ℕ → ℕ × List ℕ
-repliedInto Taken lent = doneInto lent
-repliedInto (Value v) lent = (0, 0 ∷ v ∷ drop 2 lent)
-repliedInto (RefusedCall r place) lent = refusedInto (numberOf r) place lent
-
--- the answer has 2 places, and the state 51 bytes
-unfoldable pub room : List ℕ → List ℕ → Bool
-room state lent = leb 2 (length lent) && eqb (length state) 51
-
--- the status, the bytes of the state that a call leaves, and the answer at exit
-abbrev pub arbiterInto : CallOutcome → List ℕ → ℕ × List ℕ × List ℕ
-arbiterInto o lent = beside (bytesOf (o .state)) (repliedInto (o .reply) lent)
-
--- a call on the state that the bytes say
-unfoldable pub arbiterCall : Call → List ℕ → List ℕ → ℕ × List ℕ × List ℕ
-arbiterCall c state lent = cond (room state lent) (arbiterInto (callOutcome c (stateOf state)) lent) (2, state, lent)

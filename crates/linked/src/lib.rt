@@ -12,66 +12,30 @@
 // The numbers are those of `image::judge`, `figures::figures`, `edits::edit`, `edits::preview`, `graph::finishes` and the calls of `arbiter`,
 // whose promises hold of them. Of the places that the caller reads, `WholeFigures` and `WholePreview` repeat demand 3, `WholeEdit` what an edit
 // leaves, and `WholeFinishes` what finishes say of all starts, ends and whole runs. Calls to the arbiter one after the other lead where
-// `afterAll` of `arbiter` leads, so its laws hold of the bytes (`bytes-lead` in proofs/Calls.antt).
+// `afterAll` of `arbiter` leads, so its laws hold of the bytes (`bytes-lead` in crates/lent/proofs/Bytewise.antt).
 ghost use mathlib.Core.Path.{_≡_};
-ghost use mathlib.Core.List.{_∷_};
 ghost use Prim.Native.Nat.{_≤_};
-ghost use lib.ListN.{length, drop};
-ghost use Rattle.image.specs.Judged.{numberOf};
+ghost use lib.ListN.{length};
 ghost use Rattle.figures.specs.Answers.{resultOf};
-ghost use Rattle.linked.specs.Linked.{doneInto, refusedInto, judgeCall, told, figuresCall, WholeFigures, editCall, WholeEdit, previewCall, WholePreview, finishesCall, WholeFinishes, room, repliedInto, arbiterInto, arbiterCall};
-ghost use Rattle.arbiter.specs.Calls.{read, line, write, tick, reset};
-use arbiter::Outcome;
-use arbiter::Reply;
-use arbiter::bytes::put_state;
-use arbiter::bytes::state_of;
+ghost use Rattle.linked.specs.Linked.{judgeCall, told, figuresCall, WholeFigures, editCall, WholeEdit, previewCall, WholePreview, finishesCall, WholeFinishes};
+ghost use Rattle.arbiter.specs.declared.Call.the-variants.{Read, Line, Write, Tick, Reset};
+ghost use Rattle.lent.specs.OnBytes.{arbiterCall, WholeCall};
+use arbiter::Call;
 use edits::Edited;
 use figures::Answer;
-use image::Refusal;
 use image::Verdict;
-
-// Status: accepted, the edit is done, or the figures or finishes are given.
-const DONE: u64 = 0;
-
-// Status: refused.
-const REFUSED: u64 = 1;
-
-// Status: the answer or the finishes have too few places, or the arbiter's state has not 51 bytes.
-const SHORT: u64 = 2;
+use lent::DONE;
+use lent::REFUSED;
+use lent::SHORT;
+use lent::done;
+use lent::put;
+use lent::refuse;
 
 // The number of a refused task table.
 const TASK: u64 = 21;
 
 // The places of an answer that takes figures.
 const FIGURES: usize = 3;
-
-// The first two places of an answer; later ones keep their contents.
-fn put(answer: &mut [u64], first: u64, second: u64)
-    requires { ⌜ 2 ≤ length (now answer) ⌝ }
-    ensures { λ _. ⌜ now (answer .exit) ≡ first ∷ second ∷ drop 2 (now (answer .entry)) ⌝ }
-{
-    answer[0] = first;
-    answer[1] = second;
-}
-
-// Done, and there is nothing to tell: the answer takes 0 and 0.
-fn done(answer: &mut [u64]) -> u64
-    requires { ⌜ 2 ≤ length (now answer) ⌝ }
-    ensures { λ r. ⌜ doneInto (now (answer .entry)) ≡ (r, now (answer .exit)) ⌝ }
-{
-    put(answer, 0, 0);
-    DONE
-}
-
-// Refused: the answer takes the number and the place.
-fn refuse(answer: &mut [u64], r: Refusal, place: usize) -> u64
-    requires { ⌜ 2 ≤ length (now answer) ⌝ }
-    ensures { λ n. ⌜ refusedInto (numberOf r) place (now (answer .entry)) ≡ (n, now (answer .exit)) ⌝ }
-{
-    let number = image::number(r);
-    put(answer, number as u64, place as u64);
-    REFUSED
-}
 
 // Judges an image. The answer takes 0 and the period, the number of places that a table for it needs, or a refusal's number and place.
 #[no_mangle]
@@ -199,41 +163,6 @@ pub extern "C" fn slotfigures_finishes(
     }
 }
 
-// Has the answer two places, and is the state as long as a state of the arbiter is?
-fn has_room(state: &[u8], answer: &[u64]) -> bool
-    ensures { λ b. ⌜ b ≡ room (now (state .entry)) (now (answer .entry)) ⌝ }
-{
-    if answer.len() < 2 {
-        return false;
-    }
-    state.len() == arbiter::bytes::BYTES
-}
-
-// What a call to the arbiter answers: 0 and the value read, 0 where none is, or the number and the place.
-fn reply(answer: &mut [u64], r: Reply) -> u64
-    requires { ⌜ 2 ≤ length (now answer) ⌝ }
-    ensures { λ n. ⌜ repliedInto r (now (answer .entry)) ≡ (n, now (answer .exit)) ⌝ }
-{
-    match r {
-        Reply::Accepted => done(answer),
-        Reply::Value(v) => {
-            put(answer, 0, v as u64);
-            DONE
-        }
-        Reply::Refused(x, place) => refuse(answer, x, place),
-    }
-}
-
-// The state after a call to the arbiter, and what it answers.
-fn conclude(state: &mut [u8], answer: &mut [u64], o: Outcome) -> u64
-    requires { ⌜ (length (now state) ≡ 51) × (2 ≤ length (now answer)) ⌝ }
-    ensures { λ n. ⌜ arbiterInto o (now (answer .entry)) ≡ (n, now (state .exit), now (answer .exit)) ⌝ }
-{
-    put_state(state, o.state);
-    let r = o.reply;
-    reply(answer, r)
-}
-
 // A bus of so many cores and such a slot length, with all registers and the offset clear.
 #[no_mangle]
 pub extern "C" fn slotfigures_arbiter_reset(
@@ -242,25 +171,19 @@ pub extern "C" fn slotfigures_arbiter_reset(
     slot: u64,
     answer: &mut [u64],
 ) -> u64
-    ensures { λ r. ⌜ arbiterCall (reset cores slot) (now (state .entry)) (now (answer .entry)) ≡ (r, now (state .exit), now (answer .exit)) ⌝ }
+    ensures equality { λ r. ⌜ arbiterCall (Reset cores slot) (now (state .entry)) (now (answer .entry)) ≡ (r, now (state .exit), now (answer .exit)) ⌝ }
+    ensures whole { λ r. ⌜ WholeCall (Reset cores slot) (now (state .entry)) (now (answer .entry)) r (now (state .exit)) (now (answer .exit)) ⌝ }
 {
-    if !has_room(state, answer) {
-        return SHORT;
-    }
-    let o = arbiter::calls::on_reset(state_of(state), cores as usize, slot as usize);
-    conclude(state, answer, o)
+    lent::call(state, answer, Call::Reset(cores as usize, slot as usize))
 }
 
 // One cycle of the bus.
 #[no_mangle]
 pub extern "C" fn slotfigures_arbiter_tick(state: &mut [u8], answer: &mut [u64]) -> u64
-    ensures { λ r. ⌜ arbiterCall tick (now (state .entry)) (now (answer .entry)) ≡ (r, now (state .exit), now (answer .exit)) ⌝ }
+    ensures equality { λ r. ⌜ arbiterCall Tick (now (state .entry)) (now (answer .entry)) ≡ (r, now (state .exit), now (answer .exit)) ⌝ }
+    ensures whole { λ r. ⌜ WholeCall Tick (now (state .entry)) (now (answer .entry)) r (now (state .exit)) (now (answer .exit)) ⌝ }
 {
-    if !has_room(state, answer) {
-        return SHORT;
-    }
-    let o = arbiter::calls::on_tick(state_of(state));
-    conclude(state, answer, o)
+    lent::call(state, answer, Call::Tick)
 }
 
 // A value to a core's register: 0 length, 1 flags, 2 interrupt mask.
@@ -272,18 +195,14 @@ pub extern "C" fn slotfigures_arbiter_write(
     value: u64,
     answer: &mut [u64],
 ) -> u64
-    ensures { λ r. ⌜ arbiterCall (write core register value) (now (state .entry)) (now (answer .entry)) ≡ (r, now (state .exit), now (answer .exit)) ⌝ }
+    ensures equality { λ r. ⌜ arbiterCall (Write core register value) (now (state .entry)) (now (answer .entry)) ≡ (r, now (state .exit), now (answer .exit)) ⌝ }
+    ensures whole { λ r. ⌜ WholeCall (Write core register value) (now (state .entry)) (now (answer .entry)) r (now (state .exit)) (now (answer .exit)) ⌝ }
 {
-    if !has_room(state, answer) {
-        return SHORT;
-    }
-    let o = arbiter::calls::on_write(
-        state_of(state),
-        core as usize,
-        register as usize,
-        value as usize,
-    );
-    conclude(state, answer, o)
+    lent::call(
+        state,
+        answer,
+        Call::Write(core as usize, register as usize, value as usize),
+    )
 }
 
 // A core's register.
@@ -294,23 +213,17 @@ pub extern "C" fn slotfigures_arbiter_read(
     register: u64,
     answer: &mut [u64],
 ) -> u64
-    ensures { λ r. ⌜ arbiterCall (read core register) (now (state .entry)) (now (answer .entry)) ≡ (r, now (state .exit), now (answer .exit)) ⌝ }
+    ensures equality { λ r. ⌜ arbiterCall (Read core register) (now (state .entry)) (now (answer .entry)) ≡ (r, now (state .exit), now (answer .exit)) ⌝ }
+    ensures whole { λ r. ⌜ WholeCall (Read core register) (now (state .entry)) (now (answer .entry)) r (now (state .exit)) (now (answer .exit)) ⌝ }
 {
-    if !has_room(state, answer) {
-        return SHORT;
-    }
-    let o = arbiter::calls::on_read(state_of(state), core as usize, register as usize);
-    conclude(state, answer, o)
+    lent::call(state, answer, Call::Read(core as usize, register as usize))
 }
 
 // A core's interrupt line.
 #[no_mangle]
 pub extern "C" fn slotfigures_arbiter_line(state: &mut [u8], core: u64, answer: &mut [u64]) -> u64
-    ensures { λ r. ⌜ arbiterCall (line core) (now (state .entry)) (now (answer .entry)) ≡ (r, now (state .exit), now (answer .exit)) ⌝ }
+    ensures equality { λ r. ⌜ arbiterCall (Line core) (now (state .entry)) (now (answer .entry)) ≡ (r, now (state .exit), now (answer .exit)) ⌝ }
+    ensures whole { λ r. ⌜ WholeCall (Line core) (now (state .entry)) (now (answer .entry)) r (now (state .exit)) (now (answer .exit)) ⌝ }
 {
-    if !has_room(state, answer) {
-        return SHORT;
-    }
-    let o = arbiter::calls::on_line(state_of(state), core as usize);
-    conclude(state, answer, o)
+    lent::call(state, answer, Call::Line(core as usize))
 }

@@ -1,14 +1,13 @@
 -- The invariant: behind the first three bytes, those of the cores below i are set.
-use mathlib.Core.Path.{_≡_, sym, _∙_, ap, ap₂}
-use mathlib.Core.List.{List, _∷_, [], _++_, append-nil}
+use mathlib.Core.Path.{_≡_, sym, _∙_, ap}
+use mathlib.Core.List.{_++_, append-nil}
 use native.Mathlib.Omega.{arith}
 use lib.ListN.{length, getD, take}
-use lib.Seq.{take-all}
-use Prim.Native.Nat.{ℕ, _+_, _-_, _*_, _≤_, _<_}
+use Prim.Native.Nat.{_+_, _-_, _*_, _≤_, _<_}
 use Rattle.arbiter.specs.Device.{clear}
-use Rattle.arbiter.specs.Bytes.{flat, bytesOf}
+use Rattle.arbiter.specs.Bytes.{flat}
 use Rattle.arbiter.proofs.Long.{long}
-use Rattle.arbiter.proofs.Packing.{three, length-three, take-three, core-set}
+use Rattle.arbiter.proofs.Packing.{three, length-three, take-three, core-set, all-set}
 use Rattle.arbiter.proofs.bytes.put_state.Statement.{statement}
 use Rattle.arbiter.proofs.bytes.put_state.Tie as tie
 
@@ -69,16 +68,14 @@ same-length : tie.Need-same-length Inv-loop μ-loop
 same-length c = omega (arith, c .before .loop .inv .2, c .before .before .before .before .before .before .before .before .pre)
 
 returns : tie.Need-returns Inv-loop μ-loop
-unfolding bytesOf
 returns c =
     let l = c .before in
     let b = l .before .before .before .before .before .before .before in
     let s = b .args .s in
-    let e : 3 + 3 * l .loop .i ≡ 51 = omega arith in
-    let f : take 3 (l .before .before .before .before .put .last .0) ≡ s .cores ∷ s .slot ∷ s .offset ∷ [] =
-    ap (take 3) (l .before .before .before .before .put .ensures) ∙ take-three (b .args .bytes .now) 0 (s .cores) (s .slot) (s .offset) (omega (arith, b .pre)) in
-    sym (take-all 51 (l .loop .bytes) (omega (arith, l .loop .inv .2))) ∙ ap (λ (m : ℕ). take m (l .loop .bytes)) (sym e) ∙ l .loop .inv .3
-    ∙ ap₂ (λ (xs ys : List ℕ). xs ++ ys) f (ap flat (take-all (l .loop .i) (s .registers) (omega (arith, l .loop .inv .0))))
+    let p = l .before .before .before .before .put in
+    all-set s (take 3 (p .last .0)) (l .loop .bytes) (l .loop .i) (omega arith) (l .loop .inv .0) (l .loop .inv .2) (l .loop .inv .1)
+    (ap (take 3) (p .ensures) ∙ take-three (b .args .bytes .now) 0 (s .cores) (s .slot) (s .offset) (omega (arith, b .pre)))
+    (l .loop .inv .3)
 
 pub put-state-spec : {M : Type 1} → statement M
 put-state-spec =

@@ -1,8 +1,8 @@
 -- The number is the definition's; two stores, and the status.
 use borrow.Author.Needs.{needs}
-use Rattle.linked.proofs.Calls.{refusal-leaves}
-use Rattle.linked.proofs.refuse.Statement.{statement}
-use Rattle.linked.proofs.refuse.Tie as tie
+use Rattle.lent.proofs.Putting.{refusal-leaves}
+use Rattle.lent.proofs.refuse.Statement.{statement}
+use Rattle.lent.proofs.refuse.Tie as tie
 
 number-requires : tie.Need-number-requires
 number-requires c κs = search needs

@@ -1,8 +1,8 @@
 -- Two stores from the front.
 use borrow.Author.Needs.{needs}
-use Rattle.linked.proofs.Calls.{put-two}
-use Rattle.linked.proofs.put.Statement.{statement}
-use Rattle.linked.proofs.put.Tie as tie
+use Rattle.lent.proofs.Putting.{put-two}
+use Rattle.lent.proofs.put.Statement.{statement}
+use Rattle.lent.proofs.put.Tie as tie
 
 slice-write-answer : tie.Need-slice-write-answer
 slice-write-answer c = search needs

@@ -1,8 +1,8 @@
 -- Two stores, and the status.
 use borrow.Author.Needs.{needs}
-use Rattle.linked.proofs.Calls.{done-leaves}
-use Rattle.linked.proofs.done.Statement.{statement}
-use Rattle.linked.proofs.done.Tie as tie
+use Rattle.lent.proofs.Putting.{done-leaves}
+use Rattle.lent.proofs.done.Statement.{statement}
+use Rattle.lent.proofs.done.Tie as tie
 
 put-requires : tie.Need-put-requires
 put-requires c κs = search needs

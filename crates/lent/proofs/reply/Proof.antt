@@ -1,8 +1,8 @@
 -- Each case of the answer is put as the definition says.
 use borrow.Author.Needs.{needs}
-use Rattle.linked.proofs.Calls.{replied-accepted, replied-value, replied-refused}
-use Rattle.linked.proofs.reply.Statement.{statement}
-use Rattle.linked.proofs.reply.Tie as tie
+use Rattle.lent.proofs.Bytewise.{replied-accepted, replied-value, replied-refused}
+use Rattle.lent.proofs.reply.Statement.{statement}
+use Rattle.lent.proofs.reply.Tie as tie
 
 enum-told : tie.Need-enum-told
 enum-told c = search needs

@@ -3,10 +3,9 @@ use borrow.Author.Needs.{needs}
 use borrow.Author.Tests.{not-true, not-false}
 use mathlib.Core.Path.{sym, _∙_}
 use native.Mathlib.Omega.{arith}
-use Rattle.arbiter.specs.Calls.{tick}
-use Rattle.linked.proofs.Calls.{has-room, no-room, with-room}
-use Rattle.linked.proofs.slotfigures_arbiter_tick.Statement.{statement}
-use Rattle.linked.proofs.slotfigures_arbiter_tick.Tie as tie
+use Rattle.lent.proofs.Bytewise.{has-room, no-room, with-room, whole-call}
+use Rattle.lent.proofs.call.Statement.{statement}
+use Rattle.lent.proofs.call.Tie as tie
 
 has-room-requires : tie.Need-has-room-requires
 has-room-requires c κs = search needs
@@ -20,15 +19,16 @@ same-length-2 c = search needs
 returns : tie.Need-returns
 returns c =
     let a = c .before .before .before .before .before .before .args in
-    no-room tick (a .state .now) (a .answer .now) (sym (c .before .has-room .ensures) ∙ not-true _ (c .if1 .taken))
+    let is = no-room (a .c) (a .state .now) (a .answer .now) (sym (c .before .has-room .ensures) ∙ not-true _ (c .if1 .taken)) in
+    (is, whole-call (a .c) (a .state .now) (a .answer .now) _ _ _ is)
 
 state-of-requires : tie.Need-state-of-requires
 state-of-requires c κs =
     let a = c .before .before .before .before .before .before .before .args in
     omega (arith, has-room (a .state .now) (a .answer .now) (sym (c .before .before .has-room .ensures) ∙ not-false _ (c .before .if1 .left)) .0)
 
-on-tick-requires : tie.Need-on-tick-requires
-on-tick-requires c κs = search needs
+on-requires : tie.Need-on-requires
+on-requires c κs = search needs
 
 conclude-requires : tie.Need-conclude-requires
 conclude-requires c κs =
@@ -46,12 +46,14 @@ returns-2 : tie.Need-returns-2
 returns-2 c =
     let a = c .before .before .before .before .before .before .before .before .before .before .before .before .before .before .before .before .args in
     let t = c .before .before .before .before .before .before .before .before .state-of in
-    let o = c .before .before .before .before .before .before .before .on-tick in
-    with-room tick (a .state .now) (a .answer .now) (sym (c .before .before .before .before .before .before .before .before .before .before .before .has-room .ensures) ∙ not-false _ (c .before .before .before .before .before .before .before .before .before .before .if1 .left))
-    (t .result) (t .ensures) (o .result) (o .ensures) _ (c .before .before .before .before .conclude .ensures)
+    let o = c .before .before .before .before .before .before .before .on in
+    let is =
+    with-room (a .c) (a .state .now) (a .answer .now) (sym (c .before .before .before .before .before .before .before .before .before .before .before .has-room .ensures) ∙ not-false _ (c .before .before .before .before .before .before .before .before .before .before .if1 .left))
+    (t .result) (t .ensures) (o .result) (o .ensures) _ (c .before .before .before .before .conclude .ensures) in
+    (is, whole-call (a .c) (a .state .now) (a .answer .now) _ _ _ is)
 
-pub slotfigures-arbiter-tick-spec : {M : Type 1} → statement M
-slotfigures-arbiter-tick-spec =
+pub call-spec : {M : Type 1} → statement M
+call-spec =
     tie.close
     (tie.spec
     has-room-requires
@@ -59,7 +61,7 @@ slotfigures-arbiter-tick-spec =
     same-length-2
     returns
     state-of-requires
-    on-tick-requires
+    on-requires
     conclude-requires
     same-length-3
     same-length-4

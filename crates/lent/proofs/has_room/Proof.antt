@@ -1,8 +1,8 @@
 use borrow.Author.Tests.{lt-leb, le-leb}
-use Rattle.linked.specs.Linked.{room}
+use Rattle.lent.specs.OnBytes.{room}
 use lib.ListN.{length}
-use Rattle.linked.proofs.has_room.Statement.{statement}
-use Rattle.linked.proofs.has_room.Tie as tie
+use Rattle.lent.proofs.has_room.Statement.{statement}
+use Rattle.lent.proofs.has_room.Tie as tie
 
 returns : tie.Need-returns
 unfolding room

@@ -1,7 +1,7 @@
 use borrow.Author.Needs.{needs}
-use Rattle.linked.proofs.Calls.{concluded}
-use Rattle.linked.proofs.conclude.Statement.{statement}
-use Rattle.linked.proofs.conclude.Tie as tie
+use Rattle.lent.proofs.Bytewise.{concluded}
+use Rattle.lent.proofs.conclude.Statement.{statement}
+use Rattle.lent.proofs.conclude.Tie as tie
 
 put-state-requires : tie.Need-put-state-requires
 put-state-requires c κs = search needs

@@ -1,0 +1,46 @@
+-- Calls to the arbiter on the 51 bytes of its state (document 02, "The arbiter as a device"): what a caller from C or Rust finds after a call,
+-- the status and both lent slices at exit. Definitions only; the state and the answer are `outcome` of crate `arbiter`.
+--
+-- Statuses: 0 done, 1 refused, 2 the answer has fewer than 2 places or the state is not 51 bytes long. With 2 both keep their contents.
+use mathlib.Core.Path.{_≡_}
+use mathlib.Core.Bool.{Bool, cond, _&&_}
+use mathlib.Core.List.{List, _∷_}
+use lib.ListN.{length, getD, drop}
+use lib.Dec.{leb, eqb}
+use Prim.Native.Nat.{ℕ, _≤_}
+use Rattle.image.specs.Judged.{numberOf}
+use Rattle.image.specs.declared.Refusal.{Refusal}
+use Rattle.arbiter.specs.declared.Call.{Call}
+use Rattle.arbiter.specs.Calls.{outcome, after}
+use Rattle.arbiter.specs.Conditions.{RefusedFor}
+use Rattle.arbiter.specs.Bytes.{bytesOf, stateOf}
+use Rattle.arbiter.specs.declared.Outcome.{Outcome}
+use Rattle.arbiter.specs.declared.Reply.{Reply}
+use Rattle.arbiter.specs.declared.Reply.the-variants.{Accepted, Value, Refused}
+use Rattle.lent.specs.Answers.{doneInto, refusedInto, beside}
+
+-- "the answer 0 and the value read (0 where nothing is read)", or the number and the place
+abbrev pub repliedInto : Reply → List ℕ → ℕ × List ℕ
+repliedInto Accepted lent = doneInto lent
+repliedInto (Value v) lent = (0, 0 ∷ v ∷ drop 2 lent)
+repliedInto (Refused r place) lent = refusedInto (numberOf r) place lent
+
+-- the answer has 2 places, and the state 51 bytes
+unfoldable pub room : List ℕ → List ℕ → Bool
+room state lent = leb 2 (length lent) && eqb (length state) 51
+
+-- the status, the bytes of the state that a call leaves, and the answer at exit
+abbrev pub arbiterInto : Outcome → List ℕ → ℕ × List ℕ × List ℕ
+arbiterInto o lent = beside (bytesOf (o .state)) (repliedInto (o .reply) lent)
+
+-- a call on the state that the bytes say
+unfoldable pub arbiterCall : Call → List ℕ → List ℕ → ℕ × List ℕ × List ℕ
+arbiterCall c state lent = cond (room state lent) (arbiterInto (outcome c (stateOf state)) lent) (2, state, lent)
+
+-- what the caller finds, of 51 bytes and two places or more: a call that is refused says for what, and leaves every byte; any other is done, and
+-- the bytes then say the state that it leaves
+pub record WholeCall (c : Call) (state lent : List ℕ) (status : ℕ) (exit found : List ℕ) : Type 0 where
+  pub refused : length state ≡ 51 → 2 ≤ length lent → (r : Refusal) → RefusedFor (stateOf state) c r
+      → (status ≡ 1) × (getD found 0 0 ≡ numberOf r) × (getD found 1 0 ≡ 0) × (exit ≡ state)
+  pub done : length state ≡ 51 → 2 ≤ length lent → ((r : Refusal) → RefusedFor (stateOf state) c r → ⊥)
+      → (status ≡ 0) × (getD found 0 0 ≡ 0) × (stateOf exit ≡ after c (stateOf state))
