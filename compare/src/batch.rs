@@ -3,7 +3,7 @@
 use crate::report::{Failure, Program};
 use std::io::{BufRead, BufReader, Read, Write};
 use std::process::{Command, Stdio};
-use std::sync::atomic::{AtomicBool, Ordering};
+use std::sync::atomic::{AtomicBool, AtomicUsize, Ordering};
 use std::sync::Mutex;
 use std::thread::sleep;
 use std::time::{Duration, Instant};
@@ -11,6 +11,23 @@ use std::time::{Duration, Instant};
 /// Bytes of an output that are read, and the time that a run may take.
 const MOST_BYTES: u64 = 1 << 24;
 const LIMIT: Duration = Duration::from_secs(30);
+
+/// Gives `each` the number of every batch, on so many threads, until it is stopped; for edits and sequences of calls.
+#[allow(dead_code)]
+pub fn on_threads(threads: usize, batches: usize, stopped: &(dyn Fn() -> bool + Sync), each: &(dyn Fn(usize) + Sync)) {
+    let next = AtomicUsize::new(0);
+    std::thread::scope(|scope| {
+        for _ in 0..threads {
+            scope.spawn(|| loop {
+                let which = next.fetch_add(1, Ordering::Relaxed);
+                if which >= batches || stopped() {
+                    break;
+                }
+                each(which);
+            });
+        }
+    });
+}
 
 /// Gives the program these lines and `each` what it answers, with the number of the line; false from it ends the program, and there is
 /// no answer then. The answer is what failed in the run itself: it has a line for each line and no more, and a good end.

@@ -26,7 +26,6 @@ use edit_generate::{Case, Expected};
 use editing::Found;
 use report::{Options, Tests};
 use std::collections::BTreeMap;
-use std::sync::atomic::{AtomicUsize, Ordering};
 use std::sync::Mutex;
 use std::time::{Duration, Instant};
 
@@ -86,25 +85,16 @@ fn main() {
     let all = edit_generate::all(seed, options.size("--images"));
     let batches: Vec<&[Case]> = all.chunks(BATCH).collect();
     let summary = Mutex::new(Summary::default());
-    let next = AtomicUsize::new(0);
     let stopped = || summary.lock().map_or(true, |summary| summary.tests.failed() >= options.size("--stop-after"));
-    std::thread::scope(|scope| {
-        for _ in 0..threads {
-            scope.spawn(|| loop {
-                let which = next.fetch_add(1, Ordering::Relaxed);
-                if which >= batches.len() || begun.elapsed() >= LAST_RUN || stopped() {
-                    break;
-                }
-                let (first, batch) = (which * BATCH, batches[which]);
-                let inputs: Vec<String> = batch.iter().map(|case| case.edit.line()).collect();
-                let ended = batch::run(&options.program, ("edit", &inputs), &mut |place, line| {
-                    perform(first + place, &batch[place], line, &summary);
-                    !stopped()
-                });
-                if let Some(failed) = ended {
-                    summary.lock().unwrap().tests.tell(first + batch.len(), "runs of the program", failed);
-                }
-            });
+    batch::on_threads(threads, batches.len(), &|| begun.elapsed() >= LAST_RUN || stopped(), &|which| {
+        let (first, batch) = (which * BATCH, batches[which]);
+        let inputs: Vec<String> = batch.iter().map(|case| case.edit.line()).collect();
+        let ended = batch::run(&options.program, ("edit", &inputs), &mut |place, line| {
+            perform(first + place, &batch[place], line, &summary);
+            !stopped()
+        });
+        if let Some(failed) = ended {
+            summary.lock().unwrap().tests.tell(first + batch.len(), "runs of the program", failed);
         }
     });
 

@@ -83,7 +83,8 @@ impl Random {
 }
 
 pub fn hexadecimal(image: &[u8]) -> String {
-    image.iter().map(|byte| format!("{byte:02x}")).collect()
+    let digits = image.iter().flat_map(|byte| [byte >> 4, byte & 15]);
+    digits.map(|digit| char::from(b"0123456789abcdef"[usize::from(digit)])).collect()
 }
 
 // The fields. "Every field is a one-byte tag, a two-byte length of its body, and the body."

@@ -1,8 +1,9 @@
-//! Behaves like `figure`, or with `--tables` like tests/linked/tables.c and with `--edits` like tests/linked/edits.c; with `--fault
-//! NAME` it has that one fault of wrong/faults.txt. It shares no code with the reference.
+//! Behaves like `figure`, or with `--tables` like tests/linked/tables.c, with `--edits` like tests/linked/edits.c and with `--arbiter`
+//! like tests/linked/arbiter.c; with `--fault NAME` it has that one fault of wrong/faults.txt. It shares no code with the reference.
 //!
-//! wrong [--tables | --edits] [--fault NAME]
+//! wrong [--tables | --edits | --arbiter] [--fault NAME]
 
+mod wrong_arbiter;
 mod wrong_edits;
 mod wrong_tables;
 
@@ -56,30 +57,32 @@ type Refusal = (u64, usize);
 
 fn main() {
     let mut words: Vec<String> = std::env::args().skip(1).collect();
-    // what is tried: task tables, edits, or images
+    // what is tried: task tables, edits, the arbiter, or images
     let kind = match words.first().map(String::as_str) {
         Some("--tables") => "tasks-",
         Some("--edits") => "edits-",
+        Some("--arbiter") => "arbiter-",
         _ => "",
     };
     words.drain(..usize::from(!kind.is_empty()));
     // a name that the list has, of the kind that is asked for
     let known = |name: &str| {
         let listed = FAULTS.lines().any(|line| line.starts_with(&format!("{name}: ")));
-        let of = ["tasks-", "edits-"].into_iter().find(|kind| name.starts_with(kind));
+        let of = ["tasks-", "edits-", "arbiter-"].into_iter().find(|kind| name.starts_with(kind));
         listed && of.unwrap_or("") == kind
     };
     let fault = match &words[..] {
         [] => Fault::default(),
         [option, name] if option == "--fault" && known(name) => Fault(name.clone()),
         _ => {
-            eprintln!("wrong [--tables | --edits] [--fault NAME]");
+            eprintln!("wrong [--tables | --edits | --arbiter] [--fault NAME]");
             exit(2)
         }
     };
     match kind {
         "tasks-" => return wrong_tables::run(&fault),
         "edits-" => return wrong_edits::run(&fault),
+        "arbiter-" => return wrong_arbiter::run(&fault),
         _ => {}
     }
     let input = read_input(&fault);
