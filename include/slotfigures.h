@@ -1,8 +1,8 @@
-/* Both figures, the exit count and the table of exit offsets of a task image, the same after a change of one block's durations, and the
- * finishes of tasks that wait for tasks, from C.
+/* Both figures, the exit count and the table of exit offsets of a task image, the same after a change of one block's durations, the
+ * finishes of tasks that wait for tasks, and the bus arbiter as a device, from C.
  *
  * Link target/staticlib/liblinked.a (`rt staticlib linked`; x86-64 Linux) beside the C library. The functions are those of
- * crates/linked/src/lib.rt, where they are proved to leave exactly what is said here, for every image, every table and every array.
+ * crates/linked/src/lib.rt, where they are proved to leave exactly what is said here, for every image, table, state and array.
  *
  * Every array is a pointer and then its number of elements. What no proof covers is the caller's side:
  *   - a pointer is not NULL and is aligned for its type, even where the number is 0 (nothing is then read or written through it);
@@ -22,15 +22,18 @@ extern "C" {
 
 /* The status that a call returns. */
 enum {
-    SLOTFIGURES_DONE = 0,    /* the image is accepted or edited, or its figures, those of the preview or the finishes are given */
+    SLOTFIGURES_DONE = 0,    /* the image is accepted or edited, its figures, those of the preview or the finishes are given, or the
+                                arbiter's call is made */
     SLOTFIGURES_REFUSED = 1, /* the answer's first two places hold the refusal's number and its place */
-    SLOTFIGURES_SHORT = 2    /* the answer or the finishes have too few places; every array keeps its contents and nothing is judged */
+    SLOTFIGURES_SHORT = 2    /* the answer or the finishes have too few places, or an arbiter's state is not 51 bytes long; every array
+                                keeps its contents and nothing is judged */
 };
 
 /* The number of a refusal. Of an image the first that holds is answered: fields are judged from the front, within one in the order
  * head cut, 2, 3, 4, body cut, 5, 6; then 7, 8, 9; then, where a block is named, 19 and 5 of the durations given for it; 10 is the last.
  * Its place is the byte position of the field's tag for 1 to 6, that of the block's field for the durations given, and the image's length
- * for 7 to 10 and 19. Of a task table the number is 21, and its place is an entry's index, or 0 for the table's size. */
+ * for 7 to 10 and 19. Of an arbiter the numbers are 15 and then 16, with place 0. Of a task table the number is 21, and its place is an
+ * entry's index, or 0 for the table's size. */
 enum {
     SLOTFIGURES_CUT = 1,        /* "cut": 1 or 2 bytes left where a field's head should stand, or a body with bytes missing */
     SLOTFIGURES_TAG = 2,        /* "tag": the first field's tag is not 1, the second's not 2, or a later one's not 3 to 7 */
@@ -43,6 +46,9 @@ enum {
     SLOTFIGURES_DEEP = 8,       /* "deep": the entry's depth is above 24 */
     SLOTFIGURES_LONG = 9,       /* "long": the entry's visits are above 100,000 */
     SLOTFIGURES_TABLE = 10,     /* "table": the table has fewer places than the period; slotfigures_figures and slotfigures_preview only */
+    SLOTFIGURES_REGISTER = 15,  /* "register": a core, register or value out of range (a reset's too), a write to the flags, or, save for
+                                   a reset, a state that is not well formed (see below); slotfigures_arbiter_* only */
+    SLOTFIGURES_BUSY = 16,      /* "busy": a length written while waiting or running; slotfigures_arbiter_write only */
     SLOTFIGURES_BLOCK = 19,     /* "block": the node named does not exist or is no plain block; slotfigures_edit and slotfigures_preview
                                    only */
     SLOTFIGURES_TASK = 21       /* "task": a table size outside 1 to 64, or else the first entry with a number out of range or a
@@ -120,6 +126,66 @@ struct slotfigures_task {
  */
 uint64_t slotfigures_finishes(const uint64_t *table, size_t table_length, uint64_t *finishes, size_t finishes_length,
                               uint64_t *answer, size_t answer_length);
+
+/* The bus arbiter as a device. Its state is 51 bytes, lent to each call and kept by their owner between calls:
+ *   byte 0       cores, 2 to 16
+ *   byte 1       slot, the cycles of each core's slot: 1 to 128, and cores times slot, the period, at most 256
+ *   byte 2       offset, the cycle number modulo the period: below it. Core p owns the offsets p * slot to (p + 1) * slot - 1
+ *   byte 3 + 3p  register 0 of core p, length: the cycles that its access has still to run, at most slot; not 0 while waiting or running
+ *   byte 4 + 3p  register 1 of core p, flags: 0, or one of SLOTFIGURES_FLAG_*. They are read, never written
+ *   byte 5 + 3p  register 2 of core p, mask: 1 if done is to set its interrupt line, else 0
+ * for p from 0 to 15. A state is well formed if each of these numbers is as said here, those of unused cores (p not below cores) too. A
+ * reset makes one of any 51 bytes; every other call refuses a state that is not well formed (15), and keeps a well formed one so.
+ *
+ * Of every call:
+ *   state    state_length is 51; SHORT otherwise. The answer may not overlap it. REFUSED and SHORT: every byte is as it was.
+ *   core, reg, value, cores, slot   all 64 bits of these numbers count: 256 is not 0
+ *   answer   at least 2 places. DONE: 0 and the value read, or 0 where nothing is read. REFUSED: the number, 15 or 16, and 0.
+ *            Later places keep their contents.
+ * 15 is judged before 16.
+ *
+ * What is proved of these calls, one after another on one state:
+ *   - Of states reached by calls from a reset: a length written at offset o is done after wait + length ticks and no sooner, if no reset
+ *     comes between. The wait is that of an access of this length from offset o, the same that both figures go by: 0 if
+ *     core * slot <= o <= (core + 1) * slot - length, else (core * slot + period - o) % period. Other cores' calls may come in between.
+ *   - From one state, with this core's own writes and all ticks and resets equal and in the same order, the other cores' writes never alter
+ *     this core's registers or line.
+ *   - Of states reached by calls from a reset: no two cores have running set, and the offset is the number of ticks since the last
+ *     accepted reset, modulo the period. */
+#define SLOTFIGURES_ARBITER_BYTES 51
+
+/* The registers of a core. */
+enum { SLOTFIGURES_REGISTER_LENGTH = 0, SLOTFIGURES_REGISTER_FLAGS = 1, SLOTFIGURES_REGISTER_MASK = 2 };
+
+/* The flags of a core: 0, or one of these. */
+enum {
+    SLOTFIGURES_FLAG_WAITING = 1, /* a length is written, and its access has not started */
+    SLOTFIGURES_FLAG_RUNNING = 2, /* its access has started */
+    SLOTFIGURES_FLAG_DONE = 4     /* its access has run; until the next length is written */
+};
+
+/* Sets cores and slot, and all else to 0: the offset and every register. Judges these two numbers alone, never the state before: 15 where
+ * cores is not 2 to 16, slot not 1 to 128, or cores times slot above 256. */
+uint64_t slotfigures_arbiter_reset(uint8_t *state, size_t state_length, uint64_t cores, uint64_t slot,
+                                   uint64_t *answer, size_t answer_length);
+
+/* Passes a cycle. A waiting core whose slot still holds its whole length, at the offset before the tick, turns from waiting to running.
+ * Each running length, that one too, falls by 1, and at 0 running gives way to done. Then the offset moves on by 1, from period - 1 to 0. */
+uint64_t slotfigures_arbiter_tick(uint8_t *state, size_t state_length, uint64_t *answer, size_t answer_length);
+
+/* Writes a register. A length is 1 to slot; it clears done and sets waiting, and the mask stays. A mask is 0 or 1, and may be written
+ * while waiting or running. 15: a core not below cores, a register above 2, any write to the flags, or another value; then 16: a length
+ * while this core is waiting or running. */
+uint64_t slotfigures_arbiter_write(uint8_t *state, size_t state_length, uint64_t core, uint64_t reg, uint64_t value,
+                                   uint64_t *answer, size_t answer_length);
+
+/* Reads a register: the answer's second place holds it, and the state stays as it is. 15: a core not below cores, or a register above 2. */
+uint64_t slotfigures_arbiter_read(uint8_t *state, size_t state_length, uint64_t core, uint64_t reg,
+                                  uint64_t *answer, size_t answer_length);
+
+/* Reads a core's interrupt line: the answer's second place holds 1 if its flags are done and its mask is 1, else 0, and the state stays as
+ * it is. 15: a core not below cores. */
+uint64_t slotfigures_arbiter_line(uint8_t *state, size_t state_length, uint64_t core, uint64_t *answer, size_t answer_length);
 
 #ifdef __cplusplus
 }

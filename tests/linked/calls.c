@@ -1,6 +1,7 @@
 /* Both functions of include/slotfigures.h on the cases of cases.txt, from standard input: for each, answers of 0 to 4 places and tables of 0 to
  * period + 3 (13 for a refused image). Every place that a call may not write is filled and compared, those behind the lent ones too.
  * Writes 'ok NAME' or 'wrong NAME: ..' for each case. */
+#include "lent.h"
 #include "slotfigures.h"
 #include <inttypes.h>
 #include <stdio.h>
@@ -9,14 +10,6 @@
 
 enum { PLACES = 280, ANSWERS = 8 };
 
-/* what a place holds before a call */
-static uint64_t filled(size_t i) { return UINT64_C(0xa5a5000000000000) + i; }
-
-static void fill(uint64_t *places, size_t n) {
-    size_t i;
-    for (i = 0; i < n; i++) places[i] = filled(i);
-}
-
 static int same(const uint64_t *a, const uint64_t *b, size_t n) { return memcmp(a, b, n * sizeof *a) == 0; }
 
 /* one case, and what both calls are to leave */
@@ -24,8 +17,6 @@ static uint8_t image[16384];
 static size_t length;
 static int given;
 static uint64_t period, number, place, figure[3], times[PLACES];
-
-static int hex(int c) { return c >= '0' && c <= '9' ? c - '0' : c >= 'a' && c <= 'f' ? c - 'a' + 10 : -1; }
 
 static int read_image(const char *s) {
     length = 0;

@@ -3,7 +3,7 @@
 // others.
 // Writes 'ok NAME' or 'wrong NAME: ..' for each.
 use slotfigures::{
-    edit, figures, finishes, judge, period, preview, Figures, Refusal, Task, MOST_TASKS,
+    edit, figures, finishes, judge, period, preview, Arbiter, Figures, Refusal, Task, MOST_TASKS,
     MOST_WAITS, NO_TIME,
 };
 use std::io::Read;
@@ -193,6 +193,19 @@ fn largest_table() -> bool {
     finishes(&tasks).map(|ends| ends[MOST_TASKS - 1]) == Ok(419_424_000_000)
 }
 
+// Every call of an arbiter: the last core of sixteen is done at the end of the longest period.
+fn last_core() -> Result<bool, Refusal> {
+    let mut arbiter = Arbiter::new(16, 16)?;
+    arbiter.write(15, Arbiter::MASK, 1)?;
+    arbiter.write(15, Arbiter::LENGTH, 16)?;
+    for _ in 0..255 {
+        arbiter.tick()?;
+    }
+    let running = arbiter.read(15, Arbiter::FLAGS)? == Arbiter::RUNNING && !arbiter.line(15)?;
+    arbiter.tick()?;
+    Ok(running && arbiter.line(15)?)
+}
+
 // Whether a call gives what it should in a thread with so much stack; where it ends, the program does.
 fn within_the_stack(kib: usize, call: fn() -> bool) -> Option<String> {
     let thread = std::thread::Builder::new()
@@ -233,5 +246,7 @@ fn main() {
     tell("edit in 32 KiB of stack", within_the_stack(32, edited));
     let largest = within_the_stack(32, largest_table);
     tell("finishes in 32 KiB of stack", largest);
+    let last = within_the_stack(32, || last_core() == Ok(true));
+    tell("the arbiter in 32 KiB of stack", last);
     std::process::exit(failed as i32);
 }

@@ -6,6 +6,7 @@
  * each exit offset. Both are tried with answers of 0 to 4 places; every place and byte that a call may not write is filled before it and
  * compared after it, those behind the lent ones too. An edited image is accepted, has the figures and the table of the preview, and is the old
  * one again after an edit back. Where one is otherwise, the line is 'wrong ..'. */
+#include "lent.h"
 #include "slotfigures.h"
 #include <inttypes.h>
 #include <stdio.h>
@@ -23,21 +24,6 @@ struct left {
     uint64_t status, answer[ANSWERS], table[PLACES + GUARD];
     uint8_t image[BYTES + GUARD];
 };
-
-static uint64_t filled(size_t i) { return UINT64_C(0xa5a5000000000000) + i; }
-
-static void fill(uint64_t *numbers, size_t n) {
-    size_t i;
-    for (i = 0; i < n; i++) numbers[i] = filled(i);
-}
-
-/* whether the places from a first one on are as they were filled */
-static int kept(const uint64_t *numbers, size_t first, size_t n) {
-    size_t i;
-    for (i = first; i < n; i++)
-        if (numbers[i] != filled(i)) return 0;
-    return 1;
-}
 
 /* whether an image, and the bytes behind it, are those before */
 static int untouched(const uint8_t *bytes) { return memcmp(bytes, before, length + GUARD) == 0; }
@@ -122,6 +108,7 @@ static const char *try_edited(const struct left *edited, const struct left *prev
 
 static void try_case(void) {
     static struct left edited, previewed;
+    static char digits[2 * BYTES + 1];
     uint64_t answer[2], period = 0;
     const char *wrong;
     size_t i;
@@ -135,12 +122,9 @@ static void try_case(void) {
         printf("wrong %s\n", wrong);
         return;
     }
-    printf("edit %" PRIu64 " %" PRIu64 " %" PRIu64 " %s", edited.status, edited.answer[0], edited.answer[1], length ? "" : "-");
-    for (i = 0; i < length; i++) {
-        putchar("0123456789abcdef"[edited.image[i] / 16]);
-        putchar("0123456789abcdef"[edited.image[i] % 16]);
-    }
-    printf("; preview %" PRIu64 " %" PRIu64 " %" PRIu64, previewed.status, previewed.answer[0], previewed.answer[1]);
+    write_bytes(digits, edited.image, length);
+    printf("edit %" PRIu64 " %" PRIu64 " %" PRIu64 " %s; preview %" PRIu64 " %" PRIu64 " %" PRIu64, edited.status, edited.answer[0],
+           edited.answer[1], digits, previewed.status, previewed.answer[0], previewed.answer[1]);
     if (previewed.status == SLOTFIGURES_DONE) {
         printf(" %" PRIu64, previewed.answer[2]);
         for (i = 0; i < period; i++)
@@ -149,37 +133,13 @@ static void try_case(void) {
     putchar('\n');
 }
 
-static int hex(int c) { return c >= '0' && c <= '9' ? c - '0' : c >= 'a' && c <= 'f' ? c - 'a' + 10 : -1; }
-
-/* reads the image's digits at *s, or - for none, and moves *s behind them; 0, if they are no image's */
-static int read_image(const char **s) {
-    length = 0;
-    if (**s == '-') return ++*s, 1;
-    for (; hex(**s) >= 0; *s += 2) {
-        if (hex((*s)[1]) < 0 || length == BYTES) return 0;
-        image[length++] = (uint8_t)(hex((*s)[0]) * 16 + hex((*s)[1]));
-    }
-    return length > 0;
-}
-
-/* reads a blank and a decimal number at *s and moves *s behind it; 0, if there is none or it needs more than 64 bits */
-static int read_number(const char **s, uint64_t *n) {
-    if (**s != ' ' || (*s)[1] < '0' || (*s)[1] > '9') return 0;
-    for (++*s, *n = 0; **s >= '0' && **s <= '9'; ++*s) {
-        uint64_t digit = (uint64_t)(**s - '0');
-        if (*n > (UINT64_MAX - digit) / 10) return 0;
-        *n = *n * 10 + digit;
-    }
-    return 1;
-}
-
 int main(void) {
     static char line[2 * BYTES + 128];
     while (fgets(line, sizeof line, stdin)) {
         const char *s = line;
         uint64_t lent;
-        if (!read_image(&s) || !read_number(&s, &node) || !read_number(&s, &lowest) || !read_number(&s, &highest) || !read_number(&s, &lent) ||
-            strcmp(s, "\n") != 0 || lent > PLACES)
+        if (!read_bytes(&s, image, BYTES, &length) || !read_number(&s, ' ', &node) || !read_number(&s, ' ', &lowest) ||
+            !read_number(&s, ' ', &highest) || !read_number(&s, ' ', &lent) || strcmp(s, "\n") != 0 || lent > PLACES)
             return printf("wrong: the line is not understood\n"), 1;
         places = (size_t)lent;
         try_case();

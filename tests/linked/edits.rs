@@ -1,6 +1,9 @@
 // The safe wrapper's edit and preview on cases from standard input, as edits.c has them, a line each: HEX NODE LOWEST HIGHEST PLACES. Writes the
 // same line for each, or 'wrong ..'. Answers of other lengths the wrapper cannot lend; the image and the table are slices of longer arrays, of
 // which the rest, and every place that a call may not write, is filled before it and compared after it.
+mod digits;
+
+use digits::{read_bytes, write_bytes};
 use slotfigures::{edit, figures, period, preview, Refusal, NO_TIME};
 use std::io::Read;
 
@@ -20,10 +23,7 @@ struct Case {
 fn read_case(line: &str) -> Case {
     let items: Vec<&str> = line.split(' ').collect();
     let number = |i: usize| items[i].parse::<u64>().expect("a number");
-    let digits = if items[0] == "-" { "" } else { items[0] };
-    let mut image: Vec<u8> = (0..digits.len() / 2)
-        .map(|i| u8::from_str_radix(&digits[2 * i..2 * i + 2], 16).expect("two digits"))
-        .collect();
+    let mut image = read_bytes(items[0]);
     let length = image.len();
     image.extend((0..GUARD as u8).map(|i| 0xa5 + i));
     Case {
@@ -119,8 +119,7 @@ fn line(case: &Case) -> Result<String, String> {
     }
 
     let edited = edited.map_or_else(refused, |()| Ok("0 0 0".to_string()))?;
-    let bytes: String = image[..length].iter().map(|b| format!("{b:02x}")).collect();
-    let bytes = if length == 0 { "-" } else { &bytes };
+    let bytes = write_bytes(&image[..length]);
     let previewed = previewed.map_or_else(refused, |f| {
         let head = format!("0 {} {} {}", f.tight, f.published, f.exits);
         let exits = table[..written].iter().enumerate();

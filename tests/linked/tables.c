@@ -2,6 +2,7 @@
  * Writes a line for each: the status, both places of the answer and the 64 finishes. Every table is tried with answers of 0 to 4 places and
  * with finishes of fewer than 64 places, of 64 and of more; every place that a call may not write is filled before it and compared after it,
  * those behind the lent ones and the table too. Where one is another, the line is 'wrong ..'. */
+#include "lent.h"
 #include "slotfigures.h"
 #include <inttypes.h>
 #include <stdio.h>
@@ -11,19 +12,6 @@
 enum { NUMBERS = 1024, PLACES = 80, ANSWERS = 8 };
 
 static uint64_t table[NUMBERS], before[NUMBERS], finishes[PLACES], answer[ANSWERS];
-
-static void fill(uint64_t *places, size_t n) {
-    size_t i;
-    for (i = 0; i < n; i++) places[i] = UINT64_C(0xa5a5000000000000) + i;
-}
-
-/* whether the places from a first one on are as they were filled */
-static int kept(const uint64_t *places, size_t first, size_t n) {
-    size_t i;
-    for (i = first; i < n; i++)
-        if (places[i] != UINT64_C(0xa5a5000000000000) + i) return 0;
-    return 1;
-}
 
 static uint64_t call(size_t length, size_t ends, size_t answers) {
     fill(finishes, PLACES);

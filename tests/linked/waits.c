@@ -1,12 +1,13 @@
 /* The wait on both sides of each boundary of Equation 7's three cases, on every bus of tag 1's ranges, for every core and length of access: both
  * figures of a block that always accesses, from one start, are the cycles that the clock takes, passed here one by one, and its one exit has
- * that time. Writes 'wrong ..' for each that is another, and at last 'ok N waits' or 'wrong N waits'. */
+ * that time. And the arbiter as a device: an access of each core, written at one offset, is done after as many ticks as the clock takes cycles,
+ * and no sooner. Writes 'wrong ..' for each that is another, and at last 'ok N waits' or 'wrong N waits', and the same of the device's accesses. */
 #include "slotfigures.h"
 #include <inttypes.h>
 #include <stdio.h>
 
 static unsigned cores, slot, core, period, e;
-static unsigned long tried, wrong;
+static unsigned long tried, wrong, accesses, late;
 
 /* "An access of e cycles is not split: it starts only where all e cycles lie inside the core's slot of that period." */
 static int may_start(unsigned o) {
@@ -49,11 +50,51 @@ static void try_length(void) {
     try_wait(period - 1);
 }
 
+/* every core writes the length at one offset, and ticks pass until the last is to be done */
+static void try_device(unsigned o) {
+    uint8_t state[SLOTFIGURES_ARBITER_BYTES] = {(uint8_t)cores, (uint8_t)slot, (uint8_t)o};
+    uint64_t answer[2];
+    unsigned due[16], tick, last = 0;
+    int good = 1;
+    for (core = 0; core < cores; core++) {
+        due[core] = clocked(o);
+        if (due[core] > last) last = due[core];
+        good = good && slotfigures_arbiter_write(state, sizeof state, core, SLOTFIGURES_REGISTER_LENGTH, e, answer, 2) == 0;
+    }
+    for (tick = 1; good && tick <= last; tick++) {
+        good = slotfigures_arbiter_tick(state, sizeof state, answer, 2) == 0;
+        for (core = 0; core < cores; core++) good = good && (state[4 + 3 * core] == SLOTFIGURES_FLAG_DONE) == (tick >= due[core]);
+    }
+    accesses += cores;
+    if (good) return;
+    late += cores;
+    printf("wrong %u cores, slot %u, offset %u, length %u: tick %u of the device\n", cores, slot, o, e, tick - 1);
+}
+
+/* every length and offset where the period is short; the shortest and the longest length around every slot's boundaries where it is not */
+static int chosen(unsigned o) { return period <= 48 || ((e == 1 || e == slot) && (o % slot <= 1 || o % slot == slot - 1)); }
+
+static void try_bus(void) {
+    unsigned o;
+    for (core = 0; core < cores; core++)
+        for (e = 1; e <= slot; e++) try_length();
+    for (e = 1; e <= slot; e++)
+        for (o = 0; o < period; o++)
+            if (chosen(o)) try_device(o);
+}
+
+static int told(const char *what, unsigned long all, unsigned long others) {
+    printf("%s %lu %s\n", others ? "wrong" : "ok", others ? others : all, what);
+    return others == 0 && all > 0;
+}
+
 int main(void) {
+    int good;
     for (cores = 2; cores <= 16; cores++)
-        for (slot = 1; slot <= 128 && cores * slot <= 256; slot++)
-            for (core = 0, period = cores * slot; core < cores; core++)
-                for (e = 1; e <= slot; e++) try_length();
-    printf("%s %lu waits\n", wrong ? "wrong" : "ok", wrong ? wrong : tried);
-    return wrong != 0 || tried == 0;
+        for (slot = 1; slot <= 128 && cores * slot <= 256; slot++) {
+            period = cores * slot;
+            try_bus();
+        }
+    good = told("waits", tried, wrong);
+    return !(told("accesses of the device", accesses, late) && good);
 }

@@ -1,6 +1,6 @@
-//! Both figures, the exit count and the table of exit offsets of a task image, the same after a change of one block's durations, and the
-//! finishes of tasks that wait for tasks: a safe wrapper of the proved functions of `crates/linked`, which `include/slotfigures.h` describes.
-//! Every length that is passed on is a slice's own, and what is refused is refused there.
+//! Both figures, the exit count and the table of exit offsets of a task image, the same after a change of one block's durations, the finishes
+//! of tasks that wait for tasks, and the bus arbiter as a device: a safe wrapper of the proved functions of `crates/linked`, which
+//! `include/slotfigures.h` describes. Every length that is passed on is a slice's own, and what is refused is refused there.
 //!
 //! [`figures`] and [`preview`] are to have 1 MiB of stack, the others 32 KiB. A spawned thread has 2 MiB unless
 //! `std::thread::Builder::stack_size` says otherwise; where the stack ends, the program does.
@@ -48,6 +48,44 @@ extern "C" {
         table_length: usize,
         finishes: *mut u64,
         finishes_length: usize,
+        answer: *mut u64,
+        answer_length: usize,
+    ) -> u64;
+    fn slotfigures_arbiter_reset(
+        state: *mut u8,
+        state_length: usize,
+        cores: u64,
+        slot: u64,
+        answer: *mut u64,
+        answer_length: usize,
+    ) -> u64;
+    fn slotfigures_arbiter_tick(
+        state: *mut u8,
+        state_length: usize,
+        answer: *mut u64,
+        answer_length: usize,
+    ) -> u64;
+    fn slotfigures_arbiter_write(
+        state: *mut u8,
+        state_length: usize,
+        core: u64,
+        reg: u64,
+        value: u64,
+        answer: *mut u64,
+        answer_length: usize,
+    ) -> u64;
+    fn slotfigures_arbiter_read(
+        state: *mut u8,
+        state_length: usize,
+        core: u64,
+        reg: u64,
+        answer: *mut u64,
+        answer_length: usize,
+    ) -> u64;
+    fn slotfigures_arbiter_line(
+        state: *mut u8,
+        state_length: usize,
+        core: u64,
         answer: *mut u64,
         answer_length: usize,
     ) -> u64;
@@ -101,8 +139,8 @@ impl Task<'_> {
 
 /// Why nothing is given: the number, its word and its place. The numbers 1 to 10 are told of an image, and the place is a byte position or,
 /// for 7 to 10, the image's length. Of a change, 19 is told of a node that does not exist or is no plain block, and the place is the image's
-/// length; 5 also of durations out of range, and the place is that of the block's field. 21 is told of a table of tasks, and the place is the
-/// index of an entry, or 0 for the table's size.
+/// length; 5 also of durations out of range, and the place is that of the block's field. 15 and 16 are told of an [`Arbiter`], and the place
+/// is 0. 21 is told of a table of tasks, and the place is the index of an entry, or 0 for the table's size.
 #[derive(Clone, Copy, Debug, PartialEq, Eq)]
 pub struct Refusal {
     pub number: u64,
@@ -123,6 +161,8 @@ fn word(number: u64) -> &'static str {
         8 => "deep",
         9 => "long",
         10 => "table",
+        15 => "register",
+        16 => "busy",
         19 => "block",
         21 => "task",
         _ => unreachable!("no refusal has the number {number}"),
@@ -138,7 +178,7 @@ impl fmt::Display for Refusal {
 impl std::error::Error for Refusal {}
 
 // What a call leaves in its answer if its status is 0, or the refusal in the first two places. The third status, too few places, cannot come:
-// no call needs more than the three that are lent here, nor more finishes than `finishes` lends.
+// no call needs more than the three that are lent here, nor more finishes than `finishes` lends, nor another state than an `Arbiter` holds.
 fn told(call: impl FnOnce(&mut [u64]) -> u64) -> Result<[u64; 3], Refusal> {
     let mut answer = [0; 3];
     match call(&mut answer) {
@@ -264,4 +304,144 @@ pub fn finishes(tasks: &[Task]) -> Result<[u64; MOST_TASKS], Refusal> {
         )
     })?;
     Ok(finishes)
+}
+
+/// The bus arbiter as a device: cores, slot and offset of a bus, and three registers for each of 16 cores. The cores and the slot are those
+/// of the last accepted reset; the offset moves on by 1 with each tick, from the period (cores times slot) less 1 to 0.
+///
+/// Proved of states reached by calls from a reset: a length written at offset o is done after wait + length ticks and no sooner, if no reset
+/// comes between, where the wait is that of an access of this length from o, as both figures have it; and no two cores have running set.
+/// Proved of every state: with a core's own writes and all ticks and resets equal and in the same order, the other cores' writes never alter
+/// its registers or line.
+///
+/// A call that is refused changes nothing. All 64 bits of the numbers given count.
+#[derive(Clone, Copy, Debug, PartialEq, Eq)]
+pub struct Arbiter {
+    state: [u8; Arbiter::BYTES],
+}
+
+impl Arbiter {
+    /// Bytes of the state.
+    pub const BYTES: usize = 51;
+
+    /// Register 0: the cycles that an access has still to run, at most the slot.
+    pub const LENGTH: u64 = 0;
+    /// Register 1: 0, or one of [`Self::WAITING`], [`Self::RUNNING`] and [`Self::DONE`]. It is read, never written.
+    pub const FLAGS: u64 = 1;
+    /// Register 2: 1 if done is to set the interrupt line, else 0.
+    pub const MASK: u64 = 2;
+
+    /// Flags: a length is written, and its access has not started.
+    pub const WAITING: u64 = 1;
+    /// Flags: its access has started.
+    pub const RUNNING: u64 = 2;
+    /// Flags: its access has run; until the next length is written.
+    pub const DONE: u64 = 4;
+
+    /// An arbiter after a reset; or why that is refused, as by [`Self::reset`].
+    pub fn new(cores: u64, slot: u64) -> Result<Self, Refusal> {
+        let mut arbiter = Self::from_bytes([0; Self::BYTES]);
+        arbiter.reset(cores, slot)?;
+        Ok(arbiter)
+    }
+
+    /// An arbiter with the state of these bytes: cores, slot, offset, then length, flags and mask of cores 0 to 15. Nothing is judged here.
+    /// Until a reset is accepted, every other call refuses a state (15) of which a number, those of unused cores counted, is out of range: of
+    /// cores and slot as in [`Self::reset`], an offset not below the period, a length above the slot, flags that are not 0, 1, 2 or 4, a mask
+    /// above 1, or a length of 0 beside waiting or running.
+    pub fn from_bytes(state: [u8; Self::BYTES]) -> Self {
+        Arbiter { state }
+    }
+
+    /// The bytes of the state, in the order of [`Self::from_bytes`].
+    pub fn bytes(&self) -> [u8; Self::BYTES] {
+        self.state
+    }
+
+    // One call on the state: the second place of its answer.
+    fn call(&mut self, call: impl FnOnce(&mut [u8], &mut [u64]) -> u64) -> Result<u64, Refusal> {
+        told(|answer| call(&mut self.state, answer)).map(|[_, value, _]| value)
+    }
+
+    /// Sets cores and slot, and all else to 0: the offset and every register. Refused (15), whatever the state: cores not 2 to 16, a slot not
+    /// 1 to 128, or cores times slot above 256.
+    pub fn reset(&mut self, cores: u64, slot: u64) -> Result<(), Refusal> {
+        // here and below, the pointers and lengths are those of a state and an answer that live through the call and do not overlap
+        self.call(|state, answer| unsafe {
+            slotfigures_arbiter_reset(
+                state.as_mut_ptr(),
+                state.len(),
+                cores,
+                slot,
+                answer.as_mut_ptr(),
+                answer.len(),
+            )
+        })
+        .map(|_| ())
+    }
+
+    /// Passes a cycle: a waiting core whose slot still holds its whole length turns from waiting to running; each running length, that one
+    /// too, falls by 1, and at 0 running gives way to done; then the offset moves on. Refused (15): a state as in [`Self::from_bytes`].
+    pub fn tick(&mut self) -> Result<(), Refusal> {
+        self.call(|state, answer| unsafe {
+            slotfigures_arbiter_tick(
+                state.as_mut_ptr(),
+                state.len(),
+                answer.as_mut_ptr(),
+                answer.len(),
+            )
+        })
+        .map(|_| ())
+    }
+
+    /// Writes a register. A length is 1 to the slot: it clears done and sets waiting, and the mask stays. A mask is 0 or 1, and may be written
+    /// while waiting or running. Refused: a state as in [`Self::from_bytes`], a core not below the number of cores, a register above 2, any
+    /// write to the flags, or another value (15); then a length while this core is waiting or running (16).
+    pub fn write(&mut self, core: u64, register: u64, value: u64) -> Result<(), Refusal> {
+        self.call(|state, answer| unsafe {
+            slotfigures_arbiter_write(
+                state.as_mut_ptr(),
+                state.len(),
+                core,
+                register,
+                value,
+                answer.as_mut_ptr(),
+                answer.len(),
+            )
+        })
+        .map(|_| ())
+    }
+
+    /// What a register holds. Refused (15): a state as in [`Self::from_bytes`], a core not below the number of cores, or a register above 2.
+    pub fn read(&self, core: u64, register: u64) -> Result<u64, Refusal> {
+        // the call takes a state that may be written, and leaves it: it is lent a copy
+        let mut copy = *self;
+        copy.call(|state, answer| unsafe {
+            slotfigures_arbiter_read(
+                state.as_mut_ptr(),
+                state.len(),
+                core,
+                register,
+                answer.as_mut_ptr(),
+                answer.len(),
+            )
+        })
+    }
+
+    /// Whether a core's interrupt line is set: its flags are done and its mask is 1. Refused (15): a state as in [`Self::from_bytes`], or a
+    /// core not below the number of cores.
+    pub fn line(&self, core: u64) -> Result<bool, Refusal> {
+        // as for `read`
+        let mut copy = *self;
+        copy.call(|state, answer| unsafe {
+            slotfigures_arbiter_line(
+                state.as_mut_ptr(),
+                state.len(),
+                core,
+                answer.as_mut_ptr(),
+                answer.len(),
+            )
+        })
+        .map(|line| line == 1)
+    }
 }
