@@ -18,7 +18,7 @@ use Rattle.arbiter.specs.declared.Call.the-variants.{Read, Line, Write, 
 use Rattle.arbiter.specs.Calls.{outcome, after, written, refuse, leave}
 use Rattle.arbiter.proofs.Tests.{and-left, and-right, and-both, cond-of}
 use Rattle.arbiter.proofs.Formed.{fits-at, formed-true, usable-formed, usable-core}
-use Rattle.arbiter.proofs.Steps.{stepped-at, stepped-length, ticked-formed, put-formed}
+use Rattle.arbiter.proofs.Steps.{stepped-at, stepped-length, ticked-formed, put-formed, cleared-formed}
 
 -- what holds of equal branches of two holds of the two
 pub cond-both {ℓ ℓ′} : {X : Type ℓ} (P : X → X → Type ℓ′) {t u : Bool} → t ≡ u → {x y x′ y′ : X} → P x x′ → P y y′ → P (cond t x y) (cond u x′ y′)
@@ -137,3 +137,14 @@ sixteen (Reset cores slot) a e =
     either (sized cores slot)
     (λ z. ap (λ (b : Arbiter). length (b .registers)) (reset-leaves cores slot a z) ∙ length-replicate 16 clear)
     (λ z. ap (λ (b : Arbiter). length (b .registers)) (reset-refused cores slot a z) ∙ e)
+
+-- a state in range stays so, whatever the call
+pub formed-still : (c : Call) (a : Arbiter) → formed a ≡ true → formed (after c a) ≡ true
+formed-still (Read p n) a e = ap formed (read-leaves p n a) ∙ e
+formed-still (Line p) a e = ap formed (line-leaves p a) ∙ e
+formed-still (Write p n v) a e = ap (λ (f : Frame). f .in-range) (wrote-frame p a (after (Write p n v) a) (wrote p n v a)) ∙ e
+formed-still Tick a e = ap formed (tick-leaves a e) ∙ ticked-formed a e
+formed-still (Reset cores slot) a e =
+    either (sized cores slot)
+    (λ z. ap formed (reset-leaves cores slot a z) ∙ cleared-formed cores slot z)
+    (λ z. ap formed (reset-refused cores slot a z) ∙ e)

@@ -9,5 +9,6 @@ pub mod Kept
 pub mod Apart
 pub mod Reach
 pub mod Timing
+mod Worked
 pub mod Lent
 pub mod Walking

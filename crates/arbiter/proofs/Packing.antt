@@ -149,9 +149,10 @@ core-set start b rs i h k e =
     ∙ append-assoc start (flat (take i rs)) one
     ∙ ap (λ (xs : List ℕ). start ++ xs) (sym (flat-more rs i h))
 
--- all of them
-pub all-set : (a : Arbiter) (start b : List ℕ) (i : ℕ) → 16 ≤ i → length (a .registers) ≡ 16 → length b ≡ 51 → i ≤ 16
-    → start ≡ a .cores ∷ a .slot ∷ a .offset ∷ [] → take (3 + 3 * i) b ≡ start ++ flat (take i (a .registers)) → b ≡ bytesOf a
+-- all of them, behind the first three
+pub all-set : (a : Arbiter) (b₀ b₁ b : List ℕ) (i : ℕ) → b₁ ≡ three b₀ 0 (a .cores) (a .slot) (a .offset) → 3 ≤ length b₀
+    → length (a .registers) ≡ 16 → length b ≡ 51 → i ≡ 16 → take (3 + 3 * i) b ≡ take 3 b₁ ++ flat (take i (a .registers)) → b ≡ bytesOf a
 unfolding bytesOf
-all-set a start b i h l m k e f =
-    sym (take-all (3 + 3 * i) b (omega arith)) ∙ f ∙ ap₂ (λ (xs ys : List ℕ). xs ++ ys) e (ap flat (take-all i (a .registers) (omega arith)))
+all-set a b₀ b₁ b i e h l m k f =
+    let first : take 3 b₁ ≡ a .cores ∷ a .slot ∷ a .offset ∷ [] = ap (take 3) e ∙ take-three b₀ 0 (a .cores) (a .slot) (a .offset) h in
+    sym (take-all (3 + 3 * i) b (omega arith)) ∙ f ∙ ap₂ (λ (xs ys : List ℕ). xs ++ ys) first (ap flat (take-all i (a .registers) (omega arith)))

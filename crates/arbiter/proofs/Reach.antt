@@ -21,7 +21,7 @@ use Rattle.arbiter.specs.Calls.{after}
 use Rattle.arbiter.specs.Sequences.{Reached, fresh, next}
 use Rattle.arbiter.proofs.Tests.{and-left, and-right, or-right, or-cases, same}
 use Rattle.arbiter.proofs.Formed.{fits-at, formed-true, well-formed}
-use Rattle.arbiter.proofs.Steps.{stepped-clear, ticked-formed, cleared-formed}
+use Rattle.arbiter.proofs.Steps.{stepped-is, stepped-clear, ticked-formed, cleared-formed}
 use Rattle.arbiter.proofs.Kept.{read-leaves, line-leaves, Wrote, not-at-all, put-there, Turned, waits, keeps, wrote, Frame, wrote-frame, wrote-other, tick-leaves, ticked-registers, ticked-length, reset-leaves, reset-refused}
 
 -- what is left of a running access lies inside its core's slot
@@ -76,11 +76,10 @@ run-inside v o r lt (h, k) =
     rw m (omega arith, omega arith)))
 
 stepped-inside : (v : Slots) (o : ℕ) (r : Registers) → o < periodOf v → Inside v o r → Inside v ((o + 1) % periodOf v) (stepped v o r)
-unfolding stepped
 stepped-inside v o r lt i =
-    either (starts v o r || eqb (r .flags) 2)
+    rw (stepped-is v o r) (either (starts v o r || eqb (r .flags) 2)
     (λ t. rw t (run-inside v o r lt (or-cases (starts v o r) (eqb (r .flags) 2) t (starts-inside v o r) (λ f. i (eqb-true (r .flags) 2 f)))))
-    (λ t. rw t (λ f. absurd (false≢true (sym (or-right (starts v o r) (eqb (r .flags) 2) t) ∙ eq-eqb (r .flags) 2 f))))
+    (λ t. rw t (λ f. absurd (false≢true (sym (or-right (starts v o r) (eqb (r .flags) 2) t) ∙ eq-eqb (r .flags) 2 f)))))
 
 ticked-sane : (a : Arbiter) → Sane a → Sane (ticked a)
 unfolding ticked

@@ -1,6 +1,6 @@
 -- What a tick does to one core, and that every call keeps a state in range.
 use mathlib.Core.Path.{_≡_, refl, sym, _∙_, ap}
-use mathlib.Core.Bool.{true, _||_}
+use mathlib.Core.Bool.{true, cond, _||_}
 use mathlib.Core.List.{List, [], _∷_}
 use native.Mathlib.Nat.{add-zero, mod-lt, mul-le-mul}
 use native.Mathlib.Omega.{arith}
@@ -12,12 +12,17 @@ use Rattle.runs.specs.Slots.{Slots}
 use Rattle.runs.proofs.Cases.{split, either}
 use Rattle.arbiter.specs.declared.Arbiter.{Arbiter}
 use Rattle.arbiter.specs.declared.Registers.{Registers}
-use Rattle.arbiter.specs.Device.{sized, busy, fits, flagsFit, allFit, formed, clear, slotsAt, starts, run, stepped, steppedFrom, ticked, cleared, put}
+use Rattle.arbiter.specs.Device.{sized, busy, fits, flagsFit, allFit, formed, clear, slotsAt, starts, turned, run, fallen, stepped, steppedFrom, ticked, cleared, put}
 use Rattle.arbiter.proofs.Tests.{and-left, and-right, and-both}
 use Rattle.arbiter.proofs.Formed.{clear-fits, formed-true, formed-make, sized-true}
 
+-- one that starts, and one that is running, run on; any other stays
+pub stepped-is : (v : Slots) (o : ℕ) (r : Registers) → stepped v o r ≡ cond (starts v o r || eqb (r .flags) 2) (run r) r
+unfolding turned fallen run
+stepped-is v o r = either (starts v o r) (λ t. rw t refl) (λ t. rw t refl)
+
 pub stepped-clear : (v : Slots) (o : ℕ) → stepped v o clear ≡ clear
-unfolding stepped starts
+unfolding turned fallen starts
 stepped-clear v o = refl
 
 module _ (a : Arbiter) where
@@ -43,8 +48,8 @@ run-fits slot r e =
     (λ h. rw (lt-leb (r .length) 1 h) (and-both (le-leb (r .length - 1) slot (omega arith)) (and-both m (le-leb 1 (r .length - 1) (omega arith)))))
 
 stepped-fits : (slot : ℕ) (v : Slots) (o : ℕ) (r : Registers) → fits slot r ≡ true → fits slot (stepped v o r) ≡ true
-unfolding stepped
-stepped-fits slot v o r e = either (starts v o r || eqb (r .flags) 2) (λ t. rw t (run-fits slot r e)) (λ t. rw t e)
+stepped-fits slot v o r e =
+    rw (stepped-is v o r) (either (starts v o r || eqb (r .flags) 2) (λ t. rw t (run-fits slot r e)) (λ t. rw t e))
 
 stepped-all : (a : Arbiter) (rs : List Registers) (k : ℕ) → allFit (a .slot) rs ≡ true → allFit (a .slot) (steppedFrom a k rs) ≡ true
 unfolding steppedFrom allFit

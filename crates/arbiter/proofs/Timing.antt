@@ -30,7 +30,7 @@ use Rattle.arbiter.specs.Calls.{outcome, after, answer, afterAll, writte
 use Rattle.arbiter.specs.Sequences.{Reached, fresh, next, resets, Quiet, none, more, writesLength, NoLength, oneIfTick, ticks, Since, DoneAfter, OnTime, AsTheClock}
 use Rattle.arbiter.proofs.Tests.{and-left, and-right, cond-of, same}
 use Rattle.arbiter.proofs.Formed.{formed-true, usable-core}
-use Rattle.arbiter.proofs.Steps.{ticked-formed, cleared-formed}
+use Rattle.arbiter.proofs.Steps.{stepped-is, ticked-formed, cleared-formed}
 use Rattle.arbiter.proofs.Kept.{read-leaves, line-leaves, Wrote, not-at-all, put-there, Turned, waits, keeps, wrote, Frame, frameOf, wrote-frame, wrote-other, tick-leaves, ticked-registers, ticked-length, reset-leaves, reset-refused}
 use Rattle.arbiter.proofs.Reach.{Sane, reached-sane}
 
@@ -42,19 +42,17 @@ module _ (v : Slots) (o : ℕ) (r : Registers) where
   starts-is e f k = rw (f, k)
 
   stepped-starts : starts v o r ≡ true → stepped v o r ≡ run r
-  unfolding stepped
-  stepped-starts t = ap (λ (b : Bool). cond (b || eqb (r .flags) 2) (run r) r) t
+  stepped-starts t = stepped-is v o r ∙ ap (λ (b : Bool). cond (b || eqb (r .flags) 2) (run r) r) t
 
   stepped-runs : r .flags ≡ 2 → stepped v o r ≡ run r
-  unfolding stepped
   stepped-runs f =
-      either (starts v o r)
+      stepped-is v o r
+      ∙ either (starts v o r)
       (λ t. ap (λ (b : Bool). cond (b || eqb (r .flags) 2) (run r) r) t)
       (λ t. ap₂ (λ (b d : Bool). cond (b || d) (run r) r) t (eq-eqb (r .flags) 2 f))
 
   stepped-stays : starts v o r ≡ false → r .flags ≡ 1 → stepped v o r ≡ r
-  unfolding stepped
-  stepped-stays t f = ap₂ (λ (b : Bool) (n : ℕ). cond (b || eqb n 2) (run r) r) t f
+  stepped-stays t f = stepped-is v o r ∙ ap₂ (λ (b : Bool) (n : ℕ). cond (b || eqb n 2) (run r) r) t f
 
 -- core p of a bus, an access of e cycles from the offset o
 module _ (v : Slots) (ok : Sound v) (e : ℕ) (pos : 1 ≤ e) (le : e ≤ v .slot) (o : ℕ) (lt : o < periodOf v) where
@@ -188,9 +186,10 @@ masked p n v s z l =
     (λ t. refl)
 
 stepped-done : (v : Slots) (o : ℕ) (r : Registers) → r .flags ≡ 4 → stepped v o r .flags ≡ 4
-unfolding stepped starts
+unfolding starts
 stepped-done v o r f =
-    cond-of (λ (x : Registers). x .flags ≡ 4) (starts v o r || eqb (r .flags) 2)
+    ap (λ (x : Registers). x .flags) (stepped-is v o r)
+    ∙ cond-of (λ (x : Registers). x .flags ≡ 4) (starts v o r || eqb (r .flags) 2)
     (λ t. absurd (false≢true (sym (ap (λ (n : ℕ). (eqb n 1 && inSlot v (r .length) o) || eqb n 2) f) ∙ t)))
     (λ t. f)
 

@@ -76,17 +76,25 @@ cleared cores slot = record { cores = cores; slot = slot; offset = 0; registers 
 abbrev pub slotsAt : Arbiter → ℕ → Slots
 slotsAt a p = record { cores = a .cores; slot = a .slot; core = p }
 
--- "a waiting core whose slot still holds its whole length", at the offset o: that of document 01, `inSlot`
+-- a waiting core whose slot, at the offset o, holds its whole length: `inSlot` of document 01's bus
 unfoldable pub starts : Slots → ℕ → Registers → Bool
 starts v o r = eqb (r .flags) 1 && inSlot v (r .length) o
+
+-- "a waiting core whose slot still holds its whole length turns from waiting to running"
+unfoldable pub turned : Slots → ℕ → Registers → Registers
+turned v o r = cond (starts v o r) (record { length = r .length; flags = 2; mask = r .mask }) r
 
 -- "a running length .. falls by one, and at zero running gives way to done"
 unfoldable pub run : Registers → Registers
 run r = cond (leb (r .length) 1) (record { length = 0; flags = 4; mask = r .mask }) (record { length = r .length - 1; flags = 2; mask = r .mask })
 
--- a core's registers after a tick: one that starts "turns from waiting to running", and its length, "that one too, falls by one"
-unfoldable pub stepped : Slots → ℕ → Registers → Registers
-stepped v o r = cond (starts v o r || eqb (r .flags) 2) (run r) r
+-- "a running length, that one too"
+unfoldable pub fallen : Registers → Registers
+fallen r = cond (eqb (r .flags) 2) (run r) r
+
+-- a core's registers after a tick
+abbrev pub stepped : Slots → ℕ → Registers → Registers
+stepped v o r = fallen (turned v o r)
 
 -- those of each core, from core p on
 unfoldable pub steppedFrom : Arbiter → ℕ → List Registers → List Registers

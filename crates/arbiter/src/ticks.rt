@@ -2,7 +2,7 @@
 ghost use mathlib.Core.Path.{_≡_};
 ghost use mathlib.Core.Bool.{true};
 ghost use Rattle.bus.specs.Waits.{slotsOf};
-ghost use Rattle.arbiter.specs.Device.{formed, starts, run, stepped, ticked};
+ghost use Rattle.arbiter.specs.Device.{formed, starts, turned, run, stepped, ticked};
 ghost use Rattle.arbiter.specs.Steps.{Small};
 use crate::Arbiter;
 use crate::Registers;
@@ -22,6 +22,21 @@ fn starting(b: Bus, offset: usize, r: Registers) -> bool
         return false;
     }
     offset + length <= first + b.slot
+}
+
+// An access that starts turns from waiting to running.
+fn turn(b: Bus, offset: usize, r: Registers) -> Registers
+    requires { ⌜ Small b offset ⌝ }
+    ensures { λ t. ⌜ t ≡ turned (slotsOf b) offset r ⌝ }
+{
+    if starting(b, offset, r) {
+        return Registers {
+            length: r.length,
+            flags: 2,
+            mask: r.mask,
+        };
+    }
+    r
 }
 
 // A running length falls by one, and at zero running gives way to done.
@@ -47,13 +62,11 @@ fn step(b: Bus, offset: usize, r: Registers) -> Registers
     requires { ⌜ Small b offset ⌝ }
     ensures { λ t. ⌜ t ≡ stepped (slotsOf b) offset r ⌝ }
 {
-    if starting(b, offset, r) {
-        return run_on(r);
+    let t = turn(b, offset, r);
+    if t.flags == 2 {
+        return run_on(t);
     }
-    if r.flags == 2 {
-        return run_on(r);
-    }
-    r
+    t
 }
 
 // The state after a tick.

@@ -1,5 +1,5 @@
 -- The invariant: behind the first three bytes, those of the cores below i are set.
-use mathlib.Core.Path.{_≡_, sym, _∙_, ap}
+use mathlib.Core.Path.{_≡_, sym, _∙_}
 use mathlib.Core.List.{_++_, append-nil}
 use native.Mathlib.Omega.{arith}
 use lib.ListN.{length, getD, take}
@@ -7,7 +7,7 @@ use Prim.Native.Nat.{_+_, _-_, _*_, _≤_, _<_}
 use Rattle.arbiter.specs.Device.{clear}
 use Rattle.arbiter.specs.Bytes.{flat}
 use Rattle.arbiter.proofs.Long.{long}
-use Rattle.arbiter.proofs.Packing.{three, length-three, take-three, core-set, all-set}
+use Rattle.arbiter.proofs.Packing.{three, length-three, core-set, all-set}
 use Rattle.arbiter.proofs.bytes.put_state.Statement.{statement}
 use Rattle.arbiter.proofs.bytes.put_state.Tie as tie
 
@@ -73,9 +73,8 @@ returns c =
     let b = l .before .before .before .before .before .before .before in
     let s = b .args .s in
     let p = l .before .before .before .before .put in
-    all-set s (take 3 (p .last .0)) (l .loop .bytes) (l .loop .i) (omega arith) (l .loop .inv .0) (l .loop .inv .2) (l .loop .inv .1)
-    (ap (take 3) (p .ensures) ∙ take-three (b .args .bytes .now) 0 (s .cores) (s .slot) (s .offset) (omega (arith, b .pre)))
-    (l .loop .inv .3)
+    all-set s (b .args .bytes .now) (p .last .0) (l .loop .bytes) (l .loop .i) (p .ensures) (omega (arith, b .pre))
+    (l .loop .inv .0) (l .loop .inv .2) (omega arith) (l .loop .inv .3)
 
 pub put-state-spec : {M : Type 1} → statement M
 put-state-spec =

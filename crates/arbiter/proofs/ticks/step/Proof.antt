@@ -1,37 +1,36 @@
-use mathlib.Core.Path.{sym, _∙_}
+-- What turned to running falls too: the test is made behind the turn.
+use mathlib.Core.Path.{_≡_, sym, _∙_, ap}
 use borrow.Author.Needs.{needs}
 use borrow.Author.Tests.{eq-eqb, ne-eqb}
-use Rattle.arbiter.specs.Device.{stepped}
+use Prim.Native.Nat.{ℕ}
+use Rattle.arbiter.specs.declared.Registers.{Registers}
+use Rattle.arbiter.specs.Device.{run, fallen}
 use Rattle.arbiter.proofs.ticks.step.Statement.{statement}
 use Rattle.arbiter.proofs.ticks.step.Tie as tie
 
-starting-requires : tie.Need-starting-requires
-starting-requires c κs = search needs
+runs : (t : Registers) → t .flags ≡ 2 → run t ≡ fallen t
+unfolding fallen
+runs t e = rw (eq-eqb (t .flags) 2 e)
+
+stays : (t : Registers) → (t .flags ≡ 2 → ⊥) → t ≡ fallen t
+unfolding fallen
+stays t n = rw (ne-eqb (t .flags) 2 n)
+
+turn-requires : tie.Need-turn-requires
+turn-requires c κs = search needs
 
 run-on-requires : tie.Need-run-on-requires
 run-on-requires c κs = search needs
 
 returns : tie.Need-returns
-unfolding stepped
-returns c = rw (sym (c .before .before .starting .ensures) ∙ c .before .if1 .taken) (c .run-on .ensures)
-
-run-on-requires-2 : tie.Need-run-on-requires-2
-run-on-requires-2 c κs = search needs
+returns c =
+    let t = c .before .before .before .turn in
+    c .run-on .ensures ∙ runs (t .result) (c .before .if1 .taken) ∙ ap fallen (t .ensures)
 
 returns-2 : tie.Need-returns-2
-unfolding stepped
 returns-2 c =
-    let r = c .before .before .before .before .before .args .r in
-    rw (sym (c .before .before .before .before .starting .ensures) ∙ c .before .before .before .if1 .left, eq-eqb (r .flags) 2 (c .before .if2 .taken))
-    (c .run-on2 .ensures)
-
-returns-3 : tie.Need-returns-3
-unfolding stepped
-returns-3 c =
-    let r = c .before .before .before .before .args .r in
-    rw (sym (c .before .before .before .starting .ensures) ∙ c .before .before .if1 .left, ne-eqb (r .flags) 2 (c .if2 .left))
+    let t = c .before .before .turn in
+    stays (t .result) (c .if1 .left) ∙ ap fallen (t .ensures)
 
 pub step-spec : {M : Type 1} → statement M
-step-spec =
-    tie.close
-    (tie.spec starting-requires run-on-requires returns run-on-requires-2 returns-2 returns-3)
+step-spec = tie.close (tie.spec turn-requires run-on-requires returns returns-2)
