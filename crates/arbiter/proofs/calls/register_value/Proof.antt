@@ -1,3 +1,4 @@
+use mathlib.Core.Path.{refl}
 use borrow.Author.Tests.{ne-eqb}
 use Rattle.arbiter.specs.Device.{registerAt}
 use Rattle.arbiter.proofs.calls.register_value.Statement.{statement}
@@ -5,11 +6,11 @@ use Rattle.arbiter.proofs.calls.register_value.Tie as tie
 
 returns : tie.Need-returns
 unfolding registerAt
-returns c = rw (c .match .keys1)
+returns c = rw (c .match .keys1) refl
 
 returns-2 : tie.Need-returns-2
 unfolding registerAt
-returns-2 c = rw (c .match .keys2)
+returns-2 c = rw (c .match .keys2) refl
 
 returns-3 : tie.Need-returns-3
 unfolding registerAt

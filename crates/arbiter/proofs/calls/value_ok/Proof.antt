@@ -1,3 +1,4 @@
+use mathlib.Core.Path.{refl}
 use borrow.Author.Tests.{le-leb, lt-leb, ne-eqb}
 use Rattle.arbiter.specs.Device.{writable}
 use Rattle.arbiter.proofs.calls.value_ok.Statement.{statement}
@@ -13,7 +14,7 @@ returns-2 c = let a = c .before .before .args in rw (c .before .match .keys1, le
 
 returns-3 : tie.Need-returns-3
 unfolding writable
-returns-3 c = rw (c .match .keys2)
+returns-3 c = rw (c .match .keys2) refl
 
 returns-4 : tie.Need-returns-4
 unfolding writable

@@ -1,4 +1,5 @@
 -- The code's tests are those of `starts` and `inSlot`, in their order.
+use mathlib.Core.Path.{refl}
 use native.Mathlib.Nat.{mul-le-mul}
 use native.Mathlib.Omega.{arith}
 use borrow.Author.Needs.{needs}
@@ -42,7 +43,7 @@ returns-3 : tie.Need-returns-3
 unfolding starts inSlot
 returns-3 c =
     let a = c .before .before .before .before .before .before .args in
-    rw (eq-eqb (a .r .flags) 1 (c .before .before .before .before .if1 .left), le-leb (a .b .core * a .b .slot) (a .offset) (c .before .if2 .left))
+    rw (eq-eqb (a .r .flags) 1 (c .before .before .before .before .if1 .left), le-leb (a .b .core * a .b .slot) (a .offset) (c .before .if2 .left)) refl
 
 pub starting-spec : {M : Type 1} → statement M
 starting-spec =
