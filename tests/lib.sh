@@ -10,6 +10,12 @@ need() {
   echo "missing: $1"; return 1
 }
 
+# library: target/staticlib/liblinked.a is there, built anew where a source is newer
+library() {
+  [ -f target/staticlib/liblinked.a ] && [ -z "$(find crates crates.txt -newer target/staticlib/liblinked.a -print -quit)" ] && return
+  need rt && rt staticlib linked
+}
+
 ok=0 bad=0
 # told NAME STATUS: counts a test
 told() { if [ "$2" -eq 0 ]; then ok=$((ok + 1)); else bad=$((bad + 1)); echo "FAILED: $1"; fi; }

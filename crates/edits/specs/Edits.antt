@@ -56,10 +56,12 @@ pub data Change : Type 0 where
   done : Change
   refused : (number place : ℕ) → Change
 
+-- of what `edit` answers
 abbrev pub changeOf : Edited → Change
 changeOf Done = done
 changeOf (NotDone r place) = refused (numberOf r) place
 
+-- of what is found
 abbrev pub changeFor : Found → Change
 changeFor (At place) = done
 changeFor (NotFound r place) = refused (numberOf r) place
@@ -79,6 +81,7 @@ imageAfter s node lowest highest = imageFor s node lowest highest (change s node
 
 -- ---- the preview: "what the edit on a copy and a fresh calculation would give". The calculation judges 10, so "10 is judged last".
 
+-- the answer of the calculation on the copy, or the edit's refusal
 abbrev pub previewFor : List ℕ → List ℕ → Change → Result
 previewFor copy table done = answer copy table
 previewFor copy table (refused number place) = Result.refused number place

@@ -1,6 +1,6 @@
 -- What each return of the calls leaves is what the definitions say.
 use borrow.Author.Tests.{lt-ltb, le-ltb, ltb-false}
-use mathlib.Core.Path.{_≡_, refl, sym, _∙_, ap, subst}
+use mathlib.Core.Path.{_≡_, refl, sym, _∙_, ap, ap₂, subst}
 use mathlib.Core.Bool.{Bool, true, false, cond}
 use mathlib.Core.List.{List, [], _∷_, _++_}
 use lib.ListN.{length, getD, take, drop, set, List·getD-append}
@@ -130,7 +130,7 @@ module _ (s : List ℕ) (node lo hi : ℕ) (lent : List ℕ) where
       → WholeEdit s node lo hi lent status image
   unfolding editCall
   whole-edit small status image said e =
-      record { possible = λ z. by-places (ltb (length lent) 2) (found s node lo hi) refl refl z; done = λ d long. when-possible d (omega (arith, long)) }
+      record { possible = λ z. let w = by-places (ltb (length lent) 2) (found s node lo hi) refl refl z in (w .0, omega (arith, w .1)); done = λ d long. when-possible d (omega (arith, long)) }
     where
       by-found : (f : Found) → found s node lo hi ≡ f → changedInto (changeFor f) lent .0 ≡ 0 → Editable s node lo hi
       by-found (At place) q z = when-found s node lo hi place q
@@ -153,7 +153,9 @@ module _ (s : List ℕ) (node lo hi : ℕ) (lent : List ℕ) where
 module _ (s : List ℕ) (node lo hi : ℕ) (before lent : List ℕ) where
   -- the figures of the edited image
   fresh : Editable s node lo hi → figuresCall (imageWith s node lo hi) before lent ≡ previewCall s node lo hi before lent
-  fresh d = let p = preview-is s node lo hi d before in rw (p .0, p .1)
+  fresh d =
+      let p = preview-is s node lo hi d before in
+      ap₂ (λ (r : Result) (t : List ℕ). toldCall r t before lent) (sym (p .0)) (sym (p .1))
 
   pub no-preview : length lent < 3 → WholePreview s node lo hi before lent 2 before lent
   no-preview short = record {
