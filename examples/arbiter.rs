@@ -32,7 +32,7 @@ fn at(cores: u64, slot: u64, offset: u64) -> Result<Arbiter, Refusal> {
 }
 
 // The ticks from the write of a length until it is done.
-fn taken(mut arbiter: Arbiter, core: u64, length: u64) -> Result<u64, Refusal> {
+fn taken(arbiter: &mut Arbiter, core: u64, length: u64) -> Result<u64, Refusal> {
     let mut ticks = 0;
     arbiter.write(core, Arbiter::LENGTH, length)?;
     while arbiter.read(core, Arbiter::FLAGS)? != Arbiter::DONE {
@@ -44,7 +44,7 @@ fn taken(mut arbiter: Arbiter, core: u64, length: u64) -> Result<u64, Refusal> {
 
 // The line of an access.
 fn line(cores: u64, slot: u64, core: u64, length: u64, offset: u64) -> Result<String, Refusal> {
-    let ticks = taken(at(cores, slot, offset)?, core, length)?;
+    let ticks = taken(&mut at(cores, slot, offset)?, core, length)?;
     let wait = ticks - length;
     Ok(format!("core {core}, length {length}, from offset {offset}: waits {wait}, done after {ticks} ticks"))
 }

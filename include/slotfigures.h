@@ -8,7 +8,8 @@
  *   - a pointer is not NULL and is aligned for its type, even where the number is 0 (nothing is then read or written through it);
  *   - the array has that many elements, and the arrays of one call do not overlap;
  *   - slotfigures_figures and slotfigures_preview have 1 MiB of stack, each of the others 32 KiB.
- * Nothing is kept between calls, and no memory is allocated: calls from several threads do not disturb each other.
+ * Nothing is kept between calls, and no memory is allocated: calls from several threads do not disturb each other, unless they lend one array
+ * that is written, such as an arbiter's state: its owner lets in one call at a time.
  */
 #ifndef SLOTFIGURES_H
 #define SLOTFIGURES_H
@@ -132,7 +133,7 @@ uint64_t slotfigures_finishes(const uint64_t *table, size_t table_length, uint64
  *   byte 1       slot, the cycles of each core's slot: 1 to 128, and cores times slot, the period, at most 256
  *   byte 2       offset, the cycle number modulo the period: below it. Core p owns the offsets p * slot to (p + 1) * slot - 1
  *   byte 3 + 3p  register 0 of core p, length: the cycles that its access has still to run, at most slot; not 0 while waiting or running
- *   byte 4 + 3p  register 1 of core p, flags: 0, or one of SLOTFIGURES_FLAG_*. They are read, never written
+ *   byte 4 + 3p  register 1 of core p, flags: 0, or one of the three flags below. They are read, never written
  *   byte 5 + 3p  register 2 of core p, mask: 1 if done is to set its interrupt line, else 0
  * for p from 0 to 15. A state is well formed if each of these numbers is as said here, those of unused cores (p not below cores) too. A
  * reset makes one of any 51 bytes; every other call refuses a state that is not well formed (15), and keeps a well formed one so.
@@ -144,10 +145,10 @@ uint64_t slotfigures_finishes(const uint64_t *table, size_t table_length, uint64
  *            Later places keep their contents.
  * 15 is judged before 16.
  *
- * What is proved of these calls, one after another on one state:
- *   - Of states reached by calls from a reset: a length written at offset o is done after wait + length ticks and no sooner, if no reset
- *     comes between. The wait is that of an access of this length from offset o, the same that both figures go by: 0 if
- *     core * slot <= o <= (core + 1) * slot - length, else (core * slot + period - o) % period. Other cores' calls may come in between.
+ * What is proved of these calls, one after another on one state (a call that is SHORT is none):
+ *   - Of states reached by calls from a reset: a length whose write is DONE at offset o is done after wait + length ticks and no sooner, if
+ *     no reset comes between. The wait is that of an access of this length from offset o, the same that both figures go by: 0 if
+ *     core * slot <= o <= (core + 1) * slot - length, else (core * slot + period - o) % period. Other calls, of every core, may come in between.
  *   - From one state, with this core's own writes and all ticks and resets equal and in the same order, the other cores' writes never alter
  *     this core's registers or line.
  *   - Of states reached by calls from a reset: no two cores have running set, and the offset is the number of ticks since the last
@@ -155,13 +156,13 @@ uint64_t slotfigures_finishes(const uint64_t *table, size_t table_length, uint64
 #define SLOTFIGURES_ARBITER_BYTES 51
 
 /* The registers of a core. */
-enum { SLOTFIGURES_REGISTER_LENGTH = 0, SLOTFIGURES_REGISTER_FLAGS = 1, SLOTFIGURES_REGISTER_MASK = 2 };
+enum { SLOTFIGURES_ARBITER_LENGTH = 0, SLOTFIGURES_ARBITER_FLAGS = 1, SLOTFIGURES_ARBITER_MASK = 2 };
 
 /* The flags of a core: 0, or one of these. */
 enum {
-    SLOTFIGURES_FLAG_WAITING = 1, /* a length is written, and its access has not started */
-    SLOTFIGURES_FLAG_RUNNING = 2, /* its access has started */
-    SLOTFIGURES_FLAG_DONE = 4     /* its access has run; until the next length is written */
+    SLOTFIGURES_ARBITER_WAITING = 1, /* a length is written, and its access has not started */
+    SLOTFIGURES_ARBITER_RUNNING = 2, /* its access has started */
+    SLOTFIGURES_ARBITER_DONE = 4     /* its access has run; until the next length is written, or a reset */
 };
 
 /* Sets cores and slot, and all else to 0: the offset and every register. Judges these two numbers alone, never the state before: 15 where

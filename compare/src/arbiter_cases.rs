@@ -356,7 +356,7 @@ pub fn order(sequences: &mut Sequences) {
     }
 }
 
-/// "2 where .. the state is not 51 bytes long": whatever the call is.
+/// "the state is not 51 bytes long": whatever the call is.
 pub fn lengths(sequences: &mut Sequences) {
     let good = state([2, 5, 9], &[(0, [2, 1, 1]), (1, [3, 2, 1]), (15, [1, 0, 1])]);
     let calls = [

@@ -19,7 +19,7 @@ fn refused(r: Refusal) -> Result<String, String> {
 // A reset, compared with a new arbiter; or what is wrong.
 fn reset(arbiter: &mut Arbiter, cores: u64, slot: u64) -> Result<Result<u64, Refusal>, String> {
     let given = arbiter.reset(cores, slot);
-    match Arbiter::new(cores, slot) == given.map(|()| *arbiter) {
+    match Arbiter::new(cores, slot) == given.map(|()| arbiter.clone()) {
         true => Ok(given.map(|()| 0)),
         false => Err("z: a new arbiter is otherwise".to_string()),
     }

@@ -59,11 +59,11 @@ static void try_device(unsigned o) {
     for (core = 0; core < cores; core++) {
         due[core] = clocked(o);
         if (due[core] > last) last = due[core];
-        good = good && slotfigures_arbiter_write(state, sizeof state, core, SLOTFIGURES_REGISTER_LENGTH, e, answer, 2) == 0;
+        good = good && slotfigures_arbiter_write(state, sizeof state, core, SLOTFIGURES_ARBITER_LENGTH, e, answer, 2) == 0;
     }
     for (tick = 1; good && tick <= last; tick++) {
         good = slotfigures_arbiter_tick(state, sizeof state, answer, 2) == 0;
-        for (core = 0; core < cores; core++) good = good && (state[4 + 3 * core] == SLOTFIGURES_FLAG_DONE) == (tick >= due[core]);
+        for (core = 0; core < cores; core++) good = good && (state[4 + 3 * core] == SLOTFIGURES_ARBITER_DONE) == (tick >= due[core]);
     }
     accesses += cores;
     if (good) return;

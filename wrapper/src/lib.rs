@@ -307,7 +307,8 @@ pub fn finishes(tasks: &[Task]) -> Result<[u64; MOST_TASKS], Refusal> {
 }
 
 /// The bus arbiter as a device: cores, slot and offset of a bus, and three registers for each of 16 cores. The cores and the slot are those
-/// of the last accepted reset; the offset moves on by 1 with each tick, from the period (cores times slot) less 1 to 0.
+/// of the last accepted reset, or of the bytes that it was made of; the offset moves on by 1 with each tick, from the period (cores times slot)
+/// less 1 to 0.
 ///
 /// Proved of states reached by calls from a reset: a length written at offset o is done after wait + length ticks and no sooner, if no reset
 /// comes between, where the wait is that of an access of this length from o, as both figures have it; and no two cores have running set.
@@ -315,7 +316,7 @@ pub fn finishes(tasks: &[Task]) -> Result<[u64; MOST_TASKS], Refusal> {
 /// its registers or line.
 ///
 /// A call that is refused changes nothing. All 64 bits of the numbers given count.
-#[derive(Clone, Copy, Debug, PartialEq, Eq)]
+#[derive(Clone, Debug, PartialEq, Eq)]
 pub struct Arbiter {
     state: [u8; Arbiter::BYTES],
 }
@@ -335,7 +336,7 @@ impl Arbiter {
     pub const WAITING: u64 = 1;
     /// Flags: its access has started.
     pub const RUNNING: u64 = 2;
-    /// Flags: its access has run; until the next length is written.
+    /// Flags: its access has run; until the next length is written, or a reset.
     pub const DONE: u64 = 4;
 
     /// An arbiter after a reset; or why that is refused, as by [`Self::reset`].
@@ -415,7 +416,7 @@ impl Arbiter {
     /// What a register holds. Refused (15): a state as in [`Self::from_bytes`], a core not below the number of cores, or a register above 2.
     pub fn read(&self, core: u64, register: u64) -> Result<u64, Refusal> {
         // the call takes a state that may be written, and leaves it: it is lent a copy
-        let mut copy = *self;
+        let mut copy = self.clone();
         copy.call(|state, answer| unsafe {
             slotfigures_arbiter_read(
                 state.as_mut_ptr(),
@@ -432,7 +433,7 @@ impl Arbiter {
     /// core not below the number of cores.
     pub fn line(&self, core: u64) -> Result<bool, Refusal> {
         // as for `read`
-        let mut copy = *self;
+        let mut copy = self.clone();
         copy.call(|state, answer| unsafe {
             slotfigures_arbiter_line(
                 state.as_mut_ptr(),

@@ -1,4 +1,4 @@
--- Two states that are equal in what core p has stay so: whatever other cores do, and while both take the same own calls, ticks and resets.
+-- Two states that are equal in what core p has stay so: whatever other cores do, and while both take the same own writes, ticks and resets.
 use mathlib.Core.Path.{_≡_, refl, sym, _∙_, ap, ap₂, subst}
 use mathlib.Core.Bool.{Bool, true, false, _&&_, false≢true}
 use mathlib.Core.List.{List, [], _∷_}
@@ -12,11 +12,11 @@ use Rattle.arbiter.specs.declared.Arbiter.{Arbiter}
 use Rattle.arbiter.specs.declared.Outcome.{Outcome}
 use Rattle.arbiter.specs.declared.Registers.{Registers}
 use Rattle.arbiter.specs.declared.Reply.the-variants.{Value}
-use Rattle.arbiter.specs.Device.{sized, formed, usable, clear, registersOf, stepped, ticked, writable, busy, cleared, put, registerAt, lineOf}
+use Rattle.arbiter.specs.Device.{sized, formed, usable, clear, registersOf, stepped, ticked, writable, busy, cleared, withRegisters, registerAt, lineOf}
 use Rattle.arbiter.specs.declared.Call.{Call}
 use Rattle.arbiter.specs.declared.Call.the-variants.{Read, Line, Write, Tick, Reset}
 use Rattle.arbiter.specs.Calls.{outcome, after, answer, afterAll, written}
-use Rattle.arbiter.specs.Sequences.{mine, own, Alike}
+use Rattle.arbiter.specs.Sequences.{concerns, concerning, Alike}
 use Rattle.arbiter.proofs.Steps.{ticked-formed}
 use Rattle.arbiter.proofs.Kept.{cond-both, read-leaves, line-leaves, wrote, Frame, frameOf, wrote-frame, wrote-other, tick-leaves, tick-refused, ticked-registers, ticked-length, reset-leaves, reset-refused}
 
@@ -37,8 +37,8 @@ same-sym s = record { frame = sym (s .frame); registers-same = sym (s .registers
 same-path : {p : ℕ} {a b : Arbiter} → a ≡ b → Same p a b
 same-path {p} {a} {b} e = subst (λ (c : Arbiter). Same p a c) e (same-refl p a)
 
--- a call that is not core p's own, no tick and no reset
-other : (p : ℕ) (c : Call) (a : Arbiter) → mine p c ≡ false → Same p (after c a) a
+-- a call that is not core p's own write, no tick and no reset
+other : (p : ℕ) (c : Call) (a : Arbiter) → concerns p c ≡ false → Same p (after c a) a
 other p (Read q n) a e = same-path (read-leaves q n a)
 other p (Line q) a e = same-path (line-leaves q a)
 other p (Write q n v) a e =
@@ -48,7 +48,7 @@ other p Tick a e = absurd (false≢true (sym e))
 other p (Reset cores slot) a e = absurd (false≢true (sym e))
 
 -- what is put there is had there, if the list is long enough
-put-same : (p : ℕ) (a b : Arbiter) (r : Registers) → length (a .registers) ≡ length (b .registers) → registersOf (put a p r) p ≡ registersOf (put b p r) p
+put-same : (p : ℕ) (a b : Arbiter) (r : Registers) → length (a .registers) ≡ length (b .registers) → registersOf (withRegisters a p r) p ≡ registersOf (withRegisters b p r) p
 put-same p a b r e =
     split (length (a .registers)) p
     (λ h. List·getD-eq-default (set (a .registers) p r) clear (long (a .registers) h) ∙ sym (List·getD-eq-default (set (b .registers) p r) clear (long (b .registers) (rw e at h))))
@@ -104,8 +104,8 @@ tick-same {p} {a} {b} s =
     (λ f. let g = ap (λ (x : Frame). x .in-range) (s .frame) ∙ f in rw (tick-leaves a g, tick-leaves b f) (ticked-same p a b s g f))
     (λ f. let g = ap (λ (x : Frame). x .in-range) (s .frame) ∙ f in rw (tick-refused a g, tick-refused b f) s)
 
--- an own call, a tick or a reset in both
-pub each : (p : ℕ) (c : Call) (a b : Arbiter) → mine p c ≡ true → Same p a b → Same p (after c a) (after c b)
+-- an own write, a tick or a reset in both
+pub each : (p : ℕ) (c : Call) (a b : Arbiter) → concerns p c ≡ true → Same p a b → Same p (after c a) (after c b)
 each p (Read q n) a b e s = absurd (false≢true e)
 each p (Line q) a b e s = absurd (false≢true e)
 each p (Write q n v) a b e s =
@@ -119,16 +119,16 @@ each p (Reset cores slot) a b e s =
     (λ z. rw (reset-leaves cores slot a z, reset-leaves cores slot b z) (same-refl p (cleared cores slot)))
     (λ z. rw (reset-refused cores slot a z, reset-refused cores slot b z) s)
 
--- calls lead to the same as the own ones among them
-reduced : (p : ℕ) (cs : List Call) (a b : Arbiter) → Same p a b → Same p (afterAll cs a) (afterAll (own p cs) b)
-unfolding afterAll own
+-- calls lead to the same as those among them that concern the core
+reduced : (p : ℕ) (cs : List Call) (a b : Arbiter) → Same p a b → Same p (afterAll cs a) (afterAll (concerning p cs) b)
+unfolding afterAll concerning
 reduced p [] a b s = s
 reduced p (c ∷ cs) a b s =
-    either (mine p c)
+    either (concerns p c)
     (λ m. rw m (reduced p cs (after c a) (after c b) (each p c a b m s)))
     (λ m. rw m (reduced p cs (after c a) b (same-trans (other p c a m) s)))
 
-pub apart : (p : ℕ) (a : Arbiter) (cs ds : List Call) → own p cs ≡ own p ds → Same p (afterAll cs a) (afterAll ds a)
+pub apart : (p : ℕ) (a : Arbiter) (cs ds : List Call) → concerning p cs ≡ concerning p ds → Same p (afterAll cs a) (afterAll ds a)
 apart p a cs ds e =
     same-trans (reduced p cs a a (same-refl p a))
     (subst (λ (es : List Call). Same p (afterAll es a) (afterAll ds a)) (sym e) (same-sym (reduced p ds a a (same-refl p a))))
@@ -146,5 +146,5 @@ pub alike : (p : ℕ) (a b : Arbiter) → Same p a b → Alike p a b
 alike p a b s = record { registers = s .registers-same; reads = λ n. read-same p n a b s; line-reads = line-same p a b s }
 
 -- W7: "From one state, with this core's own writes and all ticks and resets equal and in the same order, the other cores' writes never alter this core's registers or line."
-pub undisturbed : (p : ℕ) (a : Arbiter) (cs ds : List Call) → own p cs ≡ own p ds → Alike p (afterAll cs a) (afterAll ds a)
+pub undisturbed : (p : ℕ) (a : Arbiter) (cs ds : List Call) → concerning p cs ≡ concerning p ds → Alike p (afterAll cs a) (afterAll ds a)
 undisturbed p a cs ds e = alike p (afterAll cs a) (afterAll ds a) (apart p a cs ds e)

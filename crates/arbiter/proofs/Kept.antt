@@ -12,7 +12,7 @@ use Rattle.arbiter.specs.declared.Arbiter.{Arbiter}
 use Rattle.arbiter.specs.declared.Outcome.{Outcome}
 use Rattle.arbiter.specs.declared.Registers.{Registers}
 use Rattle.image.specs.declared.Refusal.the-variants.{Register}
-use Rattle.arbiter.specs.Device.{sized, fits, flagsFit, formed, usable, clear, registersOf, slotsAt, stepped, ticked, writable, busy, cleared, put}
+use Rattle.arbiter.specs.Device.{sized, fits, flagsFit, formed, usable, clear, registersOf, slotsAt, stepped, ticked, writable, busy, cleared, withRegisters}
 use Rattle.arbiter.specs.declared.Call.{Call}
 use Rattle.arbiter.specs.declared.Call.the-variants.{Read, Line, Write, Tick, Reset}
 use Rattle.arbiter.specs.Calls.{outcome, after, written, refuse, leave}
@@ -38,14 +38,14 @@ unfolding outcome
 line-leaves p a = cond-of (λ (o : Outcome). o .state ≡ a) (usable a p) (λ t. refl) (λ t. refl)
 
 -- What a write makes of a core's registers: one that is not busy is waiting, or length and flags are kept.
-pub data Turned (r : Registers) : Registers → Type 0 where
-  waits : {r′ : Registers} → busy r ≡ false → r′ .flags ≡ 1 → Turned r r′
-  keeps : {r′ : Registers} → r′ .flags ≡ r .flags → r′ .length ≡ r .length → Turned r r′
+pub data Rewritten (r : Registers) : Registers → Type 0 where
+  waits : {r′ : Registers} → busy r ≡ false → r′ .flags ≡ 1 → Rewritten r r′
+  keeps : {r′ : Registers} → r′ .flags ≡ r .flags → r′ .length ≡ r .length → Rewritten r r′
 
 -- A write leaves the state, or other registers of its core, in range.
 pub data Wrote (p : ℕ) (a : Arbiter) : Arbiter → Type 0 where
   not-at-all : Wrote p a a
-  put-there : (r : Registers) → p < a .cores → formed a ≡ true → fits (a .slot) r ≡ true → Turned (registersOf a p) r → Wrote p a (put a p r)
+  put-there : (r : Registers) → p < a .cores → formed a ≡ true → fits (a .slot) r ≡ true → Rewritten (registersOf a p) r → Wrote p a (withRegisters a p r)
 
 length-fits : (slot v m : ℕ) → leb 1 v && leb v slot ≡ true → leb m 1 ≡ true → fits slot (record { length = v; flags = 1; mask = m }) ≡ true
 unfolding fits flagsFit busy
@@ -90,7 +90,7 @@ frameOf a = record { cores = a .cores; slot = a .slot; offset = a .offset; in-ra
 pub wrote-frame : (p : ℕ) (a b : Arbiter) → Wrote p a b → frameOf b ≡ frameOf a
 wrote-frame p a b not-at-all = refl
 wrote-frame p a b (put-there r l f g h) =
-    let in-range : formed (put a p r) ≡ formed a = put-formed a p r f g ∙ sym f in
+    let in-range : formed (withRegisters a p r) ≡ formed a = put-formed a p r f g ∙ sym f in
     let many : length (set (a .registers) p r) ≡ length (a .registers) = length-set (a .registers) p r in
     λ i. record { cores = a .cores; slot = a .slot; offset = a .offset; in-range = in-range i; many = many i }
 

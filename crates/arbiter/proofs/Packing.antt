@@ -9,17 +9,17 @@ use Prim.Native.Nat.{ℕ, zero, suc, _+_, _*_, _≤_, _<_}
 use Rattle.arbiter.specs.declared.Arbiter.{Arbiter}
 use Rattle.arbiter.specs.declared.Registers.{Registers}
 use Rattle.arbiter.specs.Device.{clear}
-use Rattle.arbiter.specs.Bytes.{flat, bytesOf, cut, stateOf}
+use Rattle.arbiter.specs.Bytes.{flat, bytesOf, registersIn, stateOf}
 
 -- ---- there and back
 
-cut-flat : (rs : List Registers) → cut (flat rs) ≡ rs
-unfolding flat cut
+cut-flat : (rs : List Registers) → registersIn (flat rs) ≡ rs
+unfolding flat registersIn
 cut-flat [] = refl
 cut-flat (r ∷ rs) = ap (λ (xs : List Registers). r ∷ xs) (cut-flat rs)
 
-flat-cut : (n : ℕ) (s : List ℕ) → length s ≡ 3 * n → flat (cut s) ≡ s
-unfolding flat cut
+flat-cut : (n : ℕ) (s : List ℕ) → length s ≡ 3 * n → flat (registersIn s) ≡ s
+unfolding flat registersIn
 flat-cut n [] e = refl
 flat-cut zero (l ∷ s) e = absurd (omega arith)
 flat-cut (suc n) (l ∷ []) e = absurd (omega arith)
@@ -58,8 +58,8 @@ bytes-length a e = let f = flat-length (a .registers) in omega arith
 
 -- ---- byte by byte
 
-pub cut-length : (n : ℕ) (s : List ℕ) → length s ≡ 3 * n → length (cut s) ≡ n
-unfolding cut
+pub cut-length : (n : ℕ) (s : List ℕ) → length s ≡ 3 * n → length (registersIn s) ≡ n
+unfolding registersIn
 cut-length zero [] e = refl
 cut-length zero (l ∷ s) e = absurd (omega arith)
 cut-length (suc n) [] e = absurd (omega arith)
@@ -71,8 +71,8 @@ cut-length (suc n) (l ∷ f ∷ m ∷ s) e = ap suc (cut-length n s (omega arith
 abbrev pub coreAt : List ℕ → ℕ → Registers
 coreAt s k = record { length = getD s k 0; flags = getD s (suc k) 0; mask = getD s (suc (suc k)) 0 }
 
-cut-at : (n : ℕ) (s : List ℕ) → length s ≡ 3 * n → (i : ℕ) → i < n → getD (cut s) i clear ≡ coreAt s (3 * i)
-unfolding cut
+cut-at : (n : ℕ) (s : List ℕ) → length s ≡ 3 * n → (i : ℕ) → i < n → getD (registersIn s) i clear ≡ coreAt s (3 * i)
+unfolding registersIn
 cut-at zero s e i h = absurd (omega arith)
 cut-at (suc n) [] e i h = absurd (omega arith)
 cut-at (suc n) (l ∷ []) e i h = absurd (omega arith)
@@ -88,10 +88,10 @@ behind-three (a ∷ b ∷ []) h k = absurd (omega arith)
 behind-three (a ∷ b ∷ c ∷ s) h k = refl
 
 -- the registers that 51 bytes say: 16 cores, and core i stands at 3 + 3 × i
-pub cores-length : (s : List ℕ) → length s ≡ 51 → length (cut (drop 3 s)) ≡ 16
+pub cores-length : (s : List ℕ) → length s ≡ 51 → length (registersIn (drop 3 s)) ≡ 16
 cores-length s e = cut-length 16 (drop 3 s) (rest-length s e)
 
-pub core-said : (s : List ℕ) → length s ≡ 51 → (i : ℕ) → i < 16 → getD (cut (drop 3 s)) i clear ≡ coreAt s (3 + 3 * i)
+pub core-said : (s : List ℕ) → length s ≡ 51 → (i : ℕ) → i < 16 → getD (registersIn (drop 3 s)) i clear ≡ coreAt s (3 + 3 * i)
 core-said s e i h =
     cut-at 16 (drop 3 s) (rest-length s e) i h ∙ behind-three s (omega arith) (3 * i)
     ∙ ap (coreAt s) (let z : suc (suc (suc (3 * i))) ≡ 3 + 3 * i = omega arith in z)

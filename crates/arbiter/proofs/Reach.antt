@@ -1,7 +1,7 @@
 -- States reached by calls from a reset: in range, 16 cores, and a running access lies inside its core's slot. So no two cores are running.
 use mathlib.Core.Path.{_≡_, refl, sym, _∙_, ap, subst}
 use mathlib.Core.Bool.{Bool, true, false, _||_, false≢true}
-use mathlib.Core.List.{List}
+use mathlib.Core.List.{List, [], _∷_}
 use mathlib.Core.Logic.{inr}
 use native.Mathlib.Nat.{mod-eq-of-lt, mul-le-mul-right, suc-mul}
 use native.Mathlib.Omega.{arith}
@@ -14,15 +14,15 @@ use Rattle.runs.specs.Slots.{Slots, first, periodOf, inSlot}
 use Rattle.runs.proofs.Cases.{split, either}
 use Rattle.arbiter.specs.declared.Arbiter.{Arbiter}
 use Rattle.arbiter.specs.declared.Registers.{Registers}
-use Rattle.arbiter.specs.Device.{sized, formed, clear, registersOf, slotsAt, starts, run, stepped, ticked, cleared, put}
+use Rattle.arbiter.specs.Device.{sized, formed, clear, registersOf, slotsAt, startsNow, countDown, stepped, ticked, cleared, withRegisters}
 use Rattle.arbiter.specs.declared.Call.{Call}
 use Rattle.arbiter.specs.declared.Call.the-variants.{Read, Line, Write, Tick, Reset}
-use Rattle.arbiter.specs.Calls.{after}
+use Rattle.arbiter.specs.Calls.{after, afterAll}
 use Rattle.arbiter.specs.Sequences.{Reached, fresh, next}
 use Rattle.arbiter.proofs.Tests.{and-left, and-right, or-right, or-cases, same}
 use Rattle.arbiter.proofs.Formed.{fits-at, formed-true, well-formed}
 use Rattle.arbiter.proofs.Steps.{stepped-is, stepped-clear, ticked-formed, cleared-formed}
-use Rattle.arbiter.proofs.Kept.{read-leaves, line-leaves, Wrote, not-at-all, put-there, Turned, waits, keeps, wrote, Frame, wrote-frame, wrote-other, tick-leaves, ticked-registers, ticked-length, reset-leaves, reset-refused}
+use Rattle.arbiter.proofs.Kept.{read-leaves, line-leaves, Wrote, not-at-all, put-there, Rewritten, waits, keeps, wrote, Frame, wrote-frame, wrote-other, tick-leaves, ticked-registers, ticked-length, reset-leaves, reset-refused}
 
 -- what is left of a running access lies inside its core's slot
 abbrev pub Inside : Slots → ℕ → Registers → Type 0
@@ -53,8 +53,8 @@ cleared-sane cores slot e = record {
 running-length : (a : Arbiter) → Sane a → (p : ℕ) → registersOf a p .flags ≡ 2 → 1 ≤ registersOf a p .length
 running-length a s p e = well-formed a (s .formed-is) .all-fit p .busy-length (inr e)
 
-starts-inside : (v : Slots) (o : ℕ) (r : Registers) → starts v o r ≡ true → (first v ≤ o) × (o + r .length ≤ first v + v .slot)
-unfolding starts inSlot
+starts-inside : (v : Slots) (o : ℕ) (r : Registers) → startsNow v o r ≡ true → (first v ≤ o) × (o + r .length ≤ first v + v .slot)
+unfolding startsNow inSlot
 starts-inside v o r e =
     let i = and-right (eqb (r .flags) 1) _ e in
     (leb-true (first v) o (and-left (leb (first v) o) _ i), leb-true (o + r .length) (first v + v .slot) (and-right (leb (first v) o) _ i))
@@ -66,8 +66,8 @@ slot-within v o h k =
     (λ l. absurd (omega (arith, mul-le-mul-right (v .slot) l)))
     (λ l. subst (λ (n : ℕ). n ≤ periodOf v) (suc-mul (v .core) (v .slot)) (mul-le-mul-right (v .slot) l))
 
-run-inside : (v : Slots) (o : ℕ) (r : Registers) → o < periodOf v → (first v ≤ o) × (o + r .length ≤ first v + v .slot) → Inside v ((o + 1) % periodOf v) (run r)
-unfolding run
+run-inside : (v : Slots) (o : ℕ) (r : Registers) → o < periodOf v → (first v ≤ o) × (o + r .length ≤ first v + v .slot) → Inside v ((o + 1) % periodOf v) (countDown r)
+unfolding countDown
 run-inside v o r lt (h, k) =
     split (r .length) 1
     (λ l. rw (le-leb (r .length) 1 l) (λ f. absurd (omega arith)))
@@ -77,9 +77,9 @@ run-inside v o r lt (h, k) =
 
 stepped-inside : (v : Slots) (o : ℕ) (r : Registers) → o < periodOf v → Inside v o r → Inside v ((o + 1) % periodOf v) (stepped v o r)
 stepped-inside v o r lt i =
-    rw (stepped-is v o r) (either (starts v o r || eqb (r .flags) 2)
-    (λ t. rw t (run-inside v o r lt (or-cases (starts v o r) (eqb (r .flags) 2) t (starts-inside v o r) (λ f. i (eqb-true (r .flags) 2 f)))))
-    (λ t. rw t (λ f. absurd (false≢true (sym (or-right (starts v o r) (eqb (r .flags) 2) t) ∙ eq-eqb (r .flags) 2 f)))))
+    rw (stepped-is v o r) (either (startsNow v o r || eqb (r .flags) 2)
+    (λ t. rw t (run-inside v o r lt (or-cases (startsNow v o r) (eqb (r .flags) 2) t (starts-inside v o r) (λ f. i (eqb-true (r .flags) 2 f)))))
+    (λ t. rw t (λ f. absurd (false≢true (sym (or-right (startsNow v o r) (eqb (r .flags) 2) t) ∙ eq-eqb (r .flags) 2 f)))))
 
 ticked-sane : (a : Arbiter) → Sane a → Sane (ticked a)
 unfolding ticked
@@ -93,22 +93,22 @@ ticked-sane a s = record {
 wrote-sane : (q : ℕ) (a b : Arbiter) → Wrote q a b → Sane a → Sane b
 wrote-sane q a b not-at-all s = s
 wrote-sane q a b (put-there r l f g t) s =
-    let n = wrote-frame q a (put a q r) (put-there r l f g t) in
-    record { formed-is = ap (λ (x : Frame). x .in-range) n ∙ s .formed-is; cores-all = ap (λ (x : Frame). x .many) n ∙ s .cores-all; inside = λ p. there p; unused = λ p k. wrote-other p q a (put a q r) (λ i. absurd (omega arith)) (put-there r l f g t) ∙ s .unused p k }
+    let n = wrote-frame q a (withRegisters a q r) (put-there r l f g t) in
+    record { formed-is = ap (λ (x : Frame). x .in-range) n ∙ s .formed-is; cores-all = ap (λ (x : Frame). x .many) n ∙ s .cores-all; inside = λ p. there p; unused = λ p k. wrote-other p q a (withRegisters a q r) (λ i. absurd (omega arith)) (put-there r l f g t) ∙ s .unused p k }
   where
-    turned : (r₀ : Registers) → Turned r₀ r → Inside (slotsAt a q) (a .offset) r₀ → Inside (slotsAt a q) (a .offset) r
+    turned : (r₀ : Registers) → Rewritten r₀ r → Inside (slotsAt a q) (a .offset) r₀ → Inside (slotsAt a q) (a .offset) r
     turned r₀ (waits b′ e) i f = let z : _≡_ {A = ℕ} 1 2 = sym e ∙ f in absurd (omega arith)
     turned r₀ (keeps e l) i f = rw l (i (sym e ∙ f))
 
-    there : (p : ℕ) → Inside (slotsAt a p) (a .offset) (registersOf (put a q r) p)
+    there : (p : ℕ) → Inside (slotsAt a p) (a .offset) (registersOf (withRegisters a q r) p)
     there p =
         same p q
         (λ e. split (length (a .registers)) p
         (λ h. rw (out p h) (s .inside p))
         (λ h. rw (e, getD-set-same (a .registers) q r clear (rw e at h)) (turned (registersOf a q) t (s .inside q))))
-        (λ n. rw (wrote-other p q a (put a q r) n (put-there r l f g t)) (s .inside p))
+        (λ n. rw (wrote-other p q a (withRegisters a q r) n (put-there r l f g t)) (s .inside p))
       where
-        out : (p : ℕ) → length (a .registers) ≤ p → registersOf (put a q r) p ≡ registersOf a p
+        out : (p : ℕ) → length (a .registers) ≤ p → registersOf (withRegisters a q r) p ≡ registersOf a p
         out p h = List·getD-eq-default (set (a .registers) q r) clear (rw (length-set (a .registers) q r) h) ∙ sym (List·getD-eq-default (a .registers) clear h)
 
 pub reached-sane : {a : Arbiter} → Reached a → Sane a
@@ -137,3 +137,9 @@ one-running {a} re p q e g =
     (λ h. split q p (λ k. omega arith)
     (λ k. absurd (omega (arith, mul-le-mul-right (a .slot) k, suc-mul p (a .slot)))))
     (λ h. absurd (omega (arith, mul-le-mul-right (a .slot) h, suc-mul q (a .slot))))
+
+-- calls lead on from a reached state to reached ones
+pub reached-all : (cs : List Call) {a : Arbiter} → Reached a → Reached (afterAll cs a)
+unfolding afterAll
+reached-all [] r = r
+reached-all (c ∷ cs) r = reached-all cs (next r c)

@@ -12,7 +12,7 @@ use Rattle.arbiter.specs.declared.Arbiter.{Arbiter}
 use Rattle.arbiter.specs.declared.Outcome.{Outcome}
 use Rattle.arbiter.specs.declared.Reply.{Reply}
 use Rattle.arbiter.specs.declared.Reply.the-variants.{Accepted, Value, Refused}
-use Rattle.arbiter.specs.Device.{sized, formed, usable, registersOf, put, registerAt, lineOf, writable, busy, cleared, ticked}
+use Rattle.arbiter.specs.Device.{sized, formed, usable, registersOf, withRegisters, registerAt, lineOf, writable, busy, cleared, ticked}
 use Rattle.arbiter.specs.declared.Call.{Call}
 use Rattle.arbiter.specs.declared.Call.the-variants.{Read, Line, Write, Tick, Reset}
 use Rattle.arbiter.specs.Calls.{outcome, written, tell, leave, refuse, after, answer}

@@ -1,4 +1,4 @@
--- What a tick does to one core, and that every call keeps a state in range.
+-- What a tick does to one core, and that a tick, a write and a reset leave a state in range.
 use mathlib.Core.Path.{_≡_, refl, sym, _∙_, ap}
 use mathlib.Core.Bool.{true, cond, _||_}
 use mathlib.Core.List.{List, [], _∷_}
@@ -12,17 +12,17 @@ use Rattle.runs.specs.Slots.{Slots}
 use Rattle.runs.proofs.Cases.{split, either}
 use Rattle.arbiter.specs.declared.Arbiter.{Arbiter}
 use Rattle.arbiter.specs.declared.Registers.{Registers}
-use Rattle.arbiter.specs.Device.{sized, busy, fits, flagsFit, allFit, formed, clear, slotsAt, starts, turned, run, fallen, stepped, steppedFrom, ticked, cleared, put}
+use Rattle.arbiter.specs.Device.{sized, busy, fits, flagsFit, allFit, formed, clear, slotsAt, startsNow, turned, countDown, fallen, stepped, steppedFrom, ticked, cleared, withRegisters}
 use Rattle.arbiter.proofs.Tests.{and-left, and-right, and-both}
 use Rattle.arbiter.proofs.Formed.{clear-fits, formed-true, formed-make, sized-true}
 
--- one that starts, and one that is running, run on; any other stays
-pub stepped-is : (v : Slots) (o : ℕ) (r : Registers) → stepped v o r ≡ cond (starts v o r || eqb (r .flags) 2) (run r) r
-unfolding turned fallen run
-stepped-is v o r = either (starts v o r) (λ t. rw t refl) (λ t. rw t refl)
+-- one that starts, and one that is running, counts down; any other stays
+pub stepped-is : (v : Slots) (o : ℕ) (r : Registers) → stepped v o r ≡ cond (startsNow v o r || eqb (r .flags) 2) (countDown r) r
+unfolding turned fallen countDown
+stepped-is v o r = either (startsNow v o r) (λ t. rw t refl) (λ t. rw t refl)
 
 pub stepped-clear : (v : Slots) (o : ℕ) → stepped v o clear ≡ clear
-unfolding turned fallen starts
+unfolding turned fallen startsNow
 stepped-clear v o = refl
 
 module _ (a : Arbiter) where
@@ -38,8 +38,8 @@ module _ (a : Arbiter) where
   stepped-length [] k = refl
   stepped-length (r ∷ rs) k = ap suc (stepped-length rs (suc k))
 
-run-fits : (slot : ℕ) (r : Registers) → fits slot r ≡ true → fits slot (run r) ≡ true
-unfolding fits run flagsFit busy
+run-fits : (slot : ℕ) (r : Registers) → fits slot r ≡ true → fits slot (countDown r) ≡ true
+unfolding fits countDown flagsFit busy
 run-fits slot r e =
     let l = leb-true (r .length) slot (and-left (leb (r .length) slot) _ e) in
     let m = and-left (leb (r .mask) 1) _ (and-right (leb (r .length) slot) _ e) in
@@ -49,7 +49,7 @@ run-fits slot r e =
 
 stepped-fits : (slot : ℕ) (v : Slots) (o : ℕ) (r : Registers) → fits slot r ≡ true → fits slot (stepped v o r) ≡ true
 stepped-fits slot v o r e =
-    rw (stepped-is v o r) (either (starts v o r || eqb (r .flags) 2) (λ t. rw t (run-fits slot r e)) (λ t. rw t e))
+    rw (stepped-is v o r) (either (startsNow v o r || eqb (r .flags) 2) (λ t. rw t (run-fits slot r e)) (λ t. rw t e))
 
 stepped-all : (a : Arbiter) (rs : List Registers) (k : ℕ) → allFit (a .slot) rs ≡ true → allFit (a .slot) (steppedFrom a k rs) ≡ true
 unfolding steppedFrom allFit
@@ -75,10 +75,10 @@ ticked-formed a e =
     let f = formed-true a e in
     formed-make (ticked a) (record { size = f .size; offset-lt = mod-lt (a .offset + 1) (omega (arith, f .offset-lt)); fit = stepped-all a (a .registers) 0 (f .fit) })
 
-pub put-formed : (a : Arbiter) (p : ℕ) (r : Registers) → formed a ≡ true → fits (a .slot) r ≡ true → formed (put a p r) ≡ true
+pub put-formed : (a : Arbiter) (p : ℕ) (r : Registers) → formed a ≡ true → fits (a .slot) r ≡ true → formed (withRegisters a p r) ≡ true
 put-formed a p r e g =
     let f = formed-true a e in
-    formed-make (put a p r) (record { size = f .size; offset-lt = f .offset-lt; fit = fits-set (a .slot) (a .registers) p r (f .fit) g })
+    formed-make (withRegisters a p r) (record { size = f .size; offset-lt = f .offset-lt; fit = fits-set (a .slot) (a .registers) p r (f .fit) g })
 
 pub cleared-formed : (cores slot : ℕ) → sized cores slot ≡ true → formed (cleared cores slot) ≡ true
 unfolding cleared

@@ -12,7 +12,7 @@ use lib.Seq.{getD-set-same}
 use Prim.Native.Nat.{ℕ, _+_, _-_, _*_, _%_, _≤_, _<_}
 use Rattle.runs.specs.Slots.{Slots, Sound, periodOf, inSlot, equal, equation7}
 use Rattle.runs.specs.Clock.{State, on, offsets, Access}
-use Rattle.runs.proofs.Accesses.{access-only, pass-is}
+use Rattle.runs.proofs.Accesses.{access-only, access-ends, pass-is}
 use Rattle.runs.proofs.OffsetsLaws.{offsets-turn}
 use Rattle.runs.proofs.SlotsLaws.{equation7-is, equal-lawful}
 use Rattle.runs.proofs.Cases.{split, either}
@@ -23,36 +23,36 @@ use Rattle.arbiter.specs.declared.Outcome.{Outcome}
 use Rattle.arbiter.specs.declared.Registers.{Registers}
 use Rattle.arbiter.specs.declared.Reply.{Reply}
 use Rattle.arbiter.specs.declared.Reply.the-variants.{Accepted, Refused}
-use Rattle.arbiter.specs.Device.{sized, formed, usable, clear, registersOf, slotsAt, starts, run, stepped, ticked, put, busy, writable, cleared}
+use Rattle.arbiter.specs.Device.{sized, formed, usable, clear, registersOf, slotsAt, startsNow, countDown, stepped, ticked, withRegisters, busy, writable, cleared}
 use Rattle.arbiter.specs.declared.Call.{Call}
 use Rattle.arbiter.specs.declared.Call.the-variants.{Read, Line, Write, Tick, Reset}
 use Rattle.arbiter.specs.Calls.{outcome, after, answer, afterAll, written, refuse, leave}
-use Rattle.arbiter.specs.Sequences.{Reached, fresh, next, resets, Quiet, none, more, writesLength, NoLength, oneIfTick, ticks, Since, DoneAfter, OnTime, AsTheClock}
-use Rattle.arbiter.proofs.Tests.{and-left, and-right, cond-of, same}
+use Rattle.arbiter.specs.Sequences.{Reached, fresh, next, resets, NoReset, none, more, writesLength, NoLength, oneIfTick, ticks, Since, DoneAfter, DoneOnTime, AsTheClock}
+use Rattle.arbiter.proofs.Tests.{and-left, and-right, and-both, cond-of, same}
 use Rattle.arbiter.proofs.Formed.{formed-true, usable-core}
 use Rattle.arbiter.proofs.Steps.{stepped-is, ticked-formed, cleared-formed}
-use Rattle.arbiter.proofs.Kept.{read-leaves, line-leaves, Wrote, not-at-all, put-there, Turned, waits, keeps, wrote, Frame, frameOf, wrote-frame, wrote-other, tick-leaves, ticked-registers, ticked-length, reset-leaves, reset-refused}
+use Rattle.arbiter.proofs.Kept.{read-leaves, line-leaves, Wrote, not-at-all, put-there, Rewritten, waits, keeps, wrote, Frame, frameOf, wrote-frame, wrote-other, tick-leaves, ticked-registers, ticked-length, reset-leaves, reset-refused}
 use Rattle.arbiter.proofs.Reach.{Sane, reached-sane}
 
 -- ---- the three ways of a tick
 
 module _ (v : Slots) (o : ℕ) (r : Registers) where
-  starts-is : (e : ℕ) → r .flags ≡ 1 → r .length ≡ e → starts v o r ≡ inSlot v e o
-  unfolding starts
+  starts-is : (e : ℕ) → r .flags ≡ 1 → r .length ≡ e → startsNow v o r ≡ inSlot v e o
+  unfolding startsNow
   starts-is e f k = rw (f, k)
 
-  stepped-starts : starts v o r ≡ true → stepped v o r ≡ run r
-  stepped-starts t = stepped-is v o r ∙ ap (λ (b : Bool). cond (b || eqb (r .flags) 2) (run r) r) t
+  stepped-starts : startsNow v o r ≡ true → stepped v o r ≡ countDown r
+  stepped-starts t = stepped-is v o r ∙ ap (λ (b : Bool). cond (b || eqb (r .flags) 2) (countDown r) r) t
 
-  stepped-runs : r .flags ≡ 2 → stepped v o r ≡ run r
+  stepped-runs : r .flags ≡ 2 → stepped v o r ≡ countDown r
   stepped-runs f =
       stepped-is v o r
-      ∙ either (starts v o r)
-      (λ t. ap (λ (b : Bool). cond (b || eqb (r .flags) 2) (run r) r) t)
-      (λ t. ap₂ (λ (b d : Bool). cond (b || d) (run r) r) t (eq-eqb (r .flags) 2 f))
+      ∙ either (startsNow v o r)
+      (λ t. ap (λ (b : Bool). cond (b || eqb (r .flags) 2) (countDown r) r) t)
+      (λ t. ap₂ (λ (b d : Bool). cond (b || d) (countDown r) r) t (eq-eqb (r .flags) 2 f))
 
-  stepped-stays : starts v o r ≡ false → r .flags ≡ 1 → stepped v o r ≡ r
-  stepped-stays t f = stepped-is v o r ∙ ap₂ (λ (b : Bool) (n : ℕ). cond (b || eqb n 2) (run r) r) t f
+  stepped-stays : startsNow v o r ≡ false → r .flags ≡ 1 → stepped v o r ≡ r
+  stepped-stays t f = stepped-is v o r ∙ ap₂ (λ (b : Bool) (n : ℕ). cond (b || eqb n 2) (countDown r) r) t f
 
 -- core p of a bus, an access of e cycles from the offset o
 module _ (v : Slots) (ok : Sound v) (e : ℕ) (pos : 1 ≤ e) (le : e ≤ v .slot) (o : ℕ) (lt : o < periodOf v) where
@@ -85,8 +85,8 @@ module _ (v : Slots) (ok : Sound v) (e : ℕ) (pos : 1 ≤ e) (le : e ≤ v .slo
   abbrev Next : ℕ → Registers → Type 0
   Next n r = (n + 1 < wait + e → Phase (n + 1) r) × (n + 1 ≡ wait + e → r .flags ≡ 4)
 
-  run-next : (n : ℕ) (r : Registers) → wait ≤ n → n < wait + e → r .length + n ≡ wait + e → Next n (run r)
-  unfolding run
+  run-next : (n : ℕ) (r : Registers) → wait ≤ n → n < wait + e → r .length + n ≡ wait + e → Next n (countDown r)
+  unfolding countDown
   run-next n r l m k =
       split (r .length) 1
       (λ h. rw (le-leb (r .length) 1 h) ((λ i. absurd (omega arith)), λ i. refl))
@@ -95,7 +95,7 @@ module _ (v : Slots) (ok : Sound v) (e : ℕ) (pos : 1 ≤ e) (le : e ≤ v .slo
   step-next : (n : ℕ) (r : Registers) → Phase n r → Next n (stepped v ((o + n) % periodOf v) r)
   step-next n r (waiting l f k) =
       let at = (o + n) % periodOf v in
-      let is : starts v at r ≡ inSlot v e at = starts-is v at r e f k in
+      let is : startsNow v at r ≡ inSlot v e at = starts-is v at r e f k in
       split wait n
       (λ h.
       let w : n ≡ wait = omega arith in
@@ -114,13 +114,13 @@ pub record Taken (p e : ℕ) (a : Arbiter) : Type 0 where
   pub core-lt : p < a .cores
   pub pos : 1 ≤ e
   pub le : e ≤ a .slot
-  pub leaves : after (Write p 0 e) a ≡ put a p (record { length = e; flags = 1; mask = registersOf a p .mask })
+  pub leaves : after (Write p 0 e) a ≡ withRegisters a p (record { length = e; flags = 1; mask = registersOf a p .mask })
 
 abbrev judged : ℕ → ℕ → Arbiter → Bool → Outcome
 judged p e a t = cond t (written p 0 e a) (refuse Register a)
 
 abbrev let-through : ℕ → ℕ → Arbiter → Bool → Outcome
-let-through p e a t = cond t (refuse Busy a) (leave (put a p (record { length = e; flags = 1; mask = registersOf a p .mask })))
+let-through p e a t = cond t (refuse Busy a) (leave (withRegisters a p (record { length = e; flags = 1; mask = registersOf a p .mask })))
 
 taken : (p e : ℕ) (a : Arbiter) → answer (Write p 0 e) a ≡ Accepted → Taken p e a
 unfolding outcome written writable
@@ -171,54 +171,64 @@ clocked-from a f = record {
 }
 
 -- ---- once it is done
-record Finished (p : ℕ) (s : Arbiter) : Type 0 where
+
+record Finished (slot p : ℕ) (s : Arbiter) : Type 0 where
   formed-so : formed s ≡ true
+  slot-so : s .slot ≡ slot
   long-so : p < length (s .registers)
   done-so : registersOf s p .flags ≡ 4
 
-masked : (p n v : ℕ) (s : Arbiter) → eqb n 0 ≡ false → p < length (s .registers) → registersOf (after (Write p n v) s) p .flags ≡ registersOf s p .flags
+-- a mask, and a length that is refused, leave the flags
+flags-kept : (p n v : ℕ) (s : Arbiter) → eqb n 0 && writable (s .slot) n v ≡ false → p < length (s .registers)
+    → registersOf (after (Write p n v) s) p .flags ≡ registersOf s p .flags
 unfolding outcome written
-masked p n v s z l =
+flags-kept p n v s z l =
     cond-of (λ (o : Outcome). registersOf (o .state) p .flags ≡ registersOf s p .flags) (usable s p && writable (s .slot) n v)
     (λ t. cond-of (λ (o : Outcome). registersOf (o .state) p .flags ≡ registersOf s p .flags) (eqb n 0)
-    (λ y. absurd (false≢true (sym z ∙ y)))
+    (λ y. absurd (false≢true (sym z ∙ and-both y (and-right (usable s p) _ t))))
     (λ y. ap (λ (r : Registers). r .flags) (getD-set-same (s .registers) p (record { length = registersOf s p .length; flags = registersOf s p .flags; mask = v }) clear l)))
     (λ t. refl)
 
+ticked-slot : (s : Arbiter) → ticked s .slot ≡ s .slot
+unfolding ticked
+ticked-slot s = refl
+
 stepped-done : (v : Slots) (o : ℕ) (r : Registers) → r .flags ≡ 4 → stepped v o r .flags ≡ 4
-unfolding starts
+unfolding startsNow
 stepped-done v o r f =
     ap (λ (x : Registers). x .flags) (stepped-is v o r)
-    ∙ cond-of (λ (x : Registers). x .flags ≡ 4) (starts v o r || eqb (r .flags) 2)
+    ∙ cond-of (λ (x : Registers). x .flags ≡ 4) (startsNow v o r || eqb (r .flags) 2)
     (λ t. absurd (false≢true (sym (ap (λ (n : ℕ). (eqb n 1 && inSlot v (r .length) o) || eqb n 2) f) ∙ t)))
     (λ t. f)
 
-finished-after : (p : ℕ) (c : Call) (s : Arbiter) → resets c ≡ false → writesLength p c ≡ false → Finished p s → Finished p (after c s)
-finished-after p (Read q n) s e a x = subst (λ (b : Arbiter). Finished p b) (sym (read-leaves q n s)) x
-finished-after p (Line q) s e a x = subst (λ (b : Arbiter). Finished p b) (sym (line-leaves q s)) x
-finished-after p (Write q n v) s e a x =
+finished-after : (slot p : ℕ) (c : Call) (s : Arbiter) → resets c ≡ false → writesLength slot p c ≡ false → Finished slot p s → Finished slot p (after c s)
+finished-after slot p (Read q n) s e a x = subst (λ (b : Arbiter). Finished slot p b) (sym (read-leaves q n s)) x
+finished-after slot p (Line q) s e a x = subst (λ (b : Arbiter). Finished slot p b) (sym (line-leaves q s)) x
+finished-after slot p (Write q n v) s e a x =
     let w = wrote q n v s in
     let m = wrote-frame q s (after (Write q n v) s) w in
     record {
       formed-so = ap (λ (f : Frame). f .in-range) m ∙ x .formed-so;
+      slot-so = ap (λ (f : Frame). f .slot) m ∙ x .slot-so;
       long-so = subst (λ (k : ℕ). p < k) (sym (ap (λ (f : Frame). f .many) m)) (x .long-so);
       done-so =
           same p q
-          (λ i. subst (λ (k : ℕ). registersOf (after (Write k n v) s) p .flags ≡ 4) i (masked p n v s (ap (λ (b : Bool). b && eqb n 0) (sym (eq-eqb q p (sym i))) ∙ a) (x .long-so) ∙ x .done-so))
+          (λ i. subst (λ (k : ℕ). registersOf (after (Write k n v) s) p .flags ≡ 4) i (flags-kept p n v s (ap₂ (λ (b : Bool) (l : ℕ). b && (eqb n 0 && writable l n v)) (sym (eq-eqb q p (sym i))) (x .slot-so) ∙ a) (x .long-so) ∙ x .done-so))
           (λ i. ap (λ (r : Registers). r .flags) (wrote-other p q s (after (Write q n v) s) i w) ∙ x .done-so);
     }
-finished-after p Tick s e a x =
-    subst (λ (b : Arbiter). Finished p b) (sym (tick-leaves s (x .formed-so))) record {
+finished-after slot p Tick s e a x =
+    subst (λ (b : Arbiter). Finished slot p b) (sym (tick-leaves s (x .formed-so))) record {
       formed-so = ticked-formed s (x .formed-so);
+      slot-so = ticked-slot s ∙ x .slot-so;
       long-so = subst (λ (k : ℕ). p < k) (sym (ticked-length s)) (x .long-so);
       done-so = ap (λ (r : Registers). r .flags) (ticked-registers s p) ∙ stepped-done (slotsAt s p) (s .offset) (registersOf s p) (x .done-so);
     }
-finished-after p (Reset c z) s e a x = subst (λ (b : Arbiter). Finished p b) (sym (reset-refused c z s e)) x
+finished-after slot p (Reset c z) s e a x = subst (λ (b : Arbiter). Finished slot p b) (sym (reset-refused c z s e)) x
 
-finished-all : (p : ℕ) (cs : List Call) (s : Arbiter) → Quiet cs → NoLength p cs → Finished p s → registersOf (afterAll cs s) p .flags ≡ 4
+finished-all : (slot p : ℕ) (cs : List Call) (s : Arbiter) → NoReset cs → NoLength slot p cs → Finished slot p s → registersOf (afterAll cs s) p .flags ≡ 4
 unfolding afterAll
-finished-all p [] s none none x = x .done-so
-finished-all p (c ∷ cs) s (more e qs) (more a ls) x = finished-all p cs (after c s) qs ls (finished-after p c s e a x)
+finished-all slot p [] s none none x = x .done-so
+finished-all slot p (c ∷ cs) s (more e qs) (more a ls) x = finished-all slot p cs (after c s) qs ls (finished-after slot p c s e a x)
 
 -- ---- the states after it
 module _ (a : Arbiter) (p e : ℕ) (s₀ : Sane a) (t : Taken p e a) where
@@ -265,7 +275,7 @@ module _ (a : Arbiter) (p e : ℕ) (s₀ : Sane a) (t : Taken p e a) where
         phase = same p q (λ i. own-phase (subst (λ (k : ℕ). Wrote k s s′) (sym i) w)) (λ i. subst (λ (r : Registers). InPhase n r) (sym (wrote-other p q s s′ i w)) (x .phase));
       }
     where
-      turned : (r r′ : Registers) → Turned r r′ → InPhase n r → InPhase n r′
+      turned : (r r′ : Registers) → Rewritten r r′ → InPhase n r → InPhase n r′
       turned r r′ (waits b f) ph = absurd (false≢true (sym b ∙ phase-busy v ok e (t .pos) (t .le) (a .offset) off ph))
       turned r r′ (keeps f l) ph = phase-kept v ok e (t .pos) (t .le) (a .offset) off f l ph
 
@@ -292,7 +302,7 @@ module _ (a : Arbiter) (p e : ℕ) (s₀ : Sane a) (t : Taken p e a) where
   done-at : (n : ℕ) (s : Arbiter) → At n s → n + 1 ≡ due → registersOf (after Tick s) p .flags ≡ 4
   done-at n s x l = subst (λ (r : Registers). r .flags ≡ 4) (sym (next-registers n s x)) (step-next v ok e (t .pos) (t .le) (a .offset) off n (registersOf s p) (x .phase) .1 l)
 
-  all-at : (cs : List Call) → Quiet cs → (n : ℕ) (s : Arbiter) → At n s → n + ticks cs < due → At (n + ticks cs) (afterAll cs s)
+  all-at : (cs : List Call) → NoReset cs → (n : ℕ) (s : Arbiter) → At n s → n + ticks cs < due → At (n + ticks cs) (afterAll cs s)
   unfolding ticks afterAll
   all-at [] none n s x l = subst (λ (m : ℕ). At m s) (sym (add-zero n)) x
   all-at (Read q k ∷ cs) (more h qs) n s x l =
@@ -306,21 +316,23 @@ module _ (a : Arbiter) (p e : ℕ) (s₀ : Sane a) (t : Taken p e a) where
   all-at (Reset c z ∷ cs) (more h qs) n s x l =
       subst (λ (m : ℕ). At m (afterAll cs (after (Reset c z) s))) (omega arith) (all-at cs qs n (after (Reset c z) s) (subst (λ (b : Arbiter). At n b) (sym (reset-refused c z s h)) x) (omega arith))
 
-  timed : OnTime a p e
+  timed : DoneOnTime a p e
   timed = record {
+    least = omega (arith, t .pos);
     no-sooner = λ cs qs l. phase-busy v ok e (t .pos) (t .le) (a .offset) off (all-at cs qs 0 (after (Write p 0 e) a) begins (omega arith) .phase);
     done = λ cs ds qs l rs us.
         let s = afterAll cs (after (Write p 0 e) a) in
         let x = all-at cs qs 0 (after (Write p 0 e) a) begins (omega arith) in
-        finished-all p ds (after Tick s) rs us (record {
+        finished-all (a .slot) p ds (after Tick s) rs us (record {
           formed-so = ap formed (tick-leaves s (x .clocked .good)) ∙ ticked-formed s (x .clocked .good);
+          slot-so = ap (λ (b : Arbiter). b .slot) (tick-leaves s (x .clocked .good)) ∙ ticked-slot s ∙ x .clocked .slot-kept;
           long-so = omega (arith, ap (λ (b : Arbiter). length (b .registers)) (tick-leaves s (x .clocked .good)), ticked-length s, x .all, few);
           done-so = done-at (0 + ticks cs) s x (omega arith);
         });
   }
 
 -- W7: "In states reached by calls from a reset, a length written at offset o is done after wait + length ticks and no sooner, if no reset comes between."
-pub on-time : {a : Arbiter} → Reached a → (p e : ℕ) → answer (Write p 0 e) a ≡ Accepted → OnTime a p e
+pub on-time : {a : Arbiter} → Reached a → (p e : ℕ) → answer (Write p 0 e) a ≡ Accepted → DoneOnTime a p e
 on-time {a} r p e x = timed a p e (reached-sane r) (taken p e a x)
 
 -- ---- the clock of the arbiter is the clock of runs
@@ -332,31 +344,32 @@ clocked-after a n s (Write q k y) e x = rw (add-zero n) (clocked-same a n s (aft
 clocked-after a n s Tick e x = clocked-tick a n s x
 clocked-after a n s (Reset c z) e x = rw (add-zero n, reset-refused c z s e) x
 
-clocked-all : (a : Arbiter) (cs : List Call) → Quiet cs → (n : ℕ) (s : Arbiter) → Clocked a n s → Clocked a (n + ticks cs) (afterAll cs s)
+clocked-all : (a : Arbiter) (cs : List Call) → NoReset cs → (n : ℕ) (s : Arbiter) → Clocked a n s → Clocked a (n + ticks cs) (afterAll cs s)
 unfolding ticks afterAll
 clocked-all a [] none n s x = subst (λ (m : ℕ). Clocked a m s) (sym (add-zero n)) x
 clocked-all a (c ∷ cs) (more e qs) n s x =
     subst (λ (m : ℕ). Clocked a m (afterAll cs (after c s))) (omega arith) (clocked-all a cs qs (n + oneIfTick c) (after c s) (clocked-after a n s c e x))
 
--- without a reset the offset moves on by 1 with each tick
-pub clock : (a : Arbiter) → formed a ≡ true → (cs : List Call) → Quiet cs → afterAll cs a .offset ≡ (a .offset + ticks cs) % (a .cores * a .slot)
-clock a f cs qs =
-    clocked-all a cs qs 0 a (clocked-from a f) .moved
-    ∙ ap (λ (m : ℕ). (a .offset + m) % (a .cores * a .slot)) (omega arith)
-
 -- an access of a run from the arbiter's offset takes as many cycles as the device takes ticks
 pub as-the-clock : {a : Arbiter} → Reached a → (p e : ℕ) → answer (Write p 0 e) a ≡ Accepted → AsTheClock a p e
 unfolding equal
-as-the-clock {a} re p e x count s r =
+as-the-clock {a} re p e x =
     let sn = reached-sane re in
     let t = taken p e a x in
     let v = slotsAt a p in
+    let q = offsets (a .cores * a .slot) in
     let n = equation7 v e (a .offset) + e in
     let l = equal-lawful v (ok a p e sn t) in
     let lt = off a p e sn t in
     let u = offsets-turn (a .cores * a .slot) (l .period-pos) in
-    let i = access-only (equal v) l (offsets (a .cores * a .slot)) u e (t .pos) (t .le) r lt ∙ pass-is (equal v) l (offsets (a .cores * a .slot)) u n (on (a .offset) count) lt in
-    (n, ap (λ (z : State). z .count) i, ap (λ (z : State). z .at) i, on-time re p e x)
+    record {
+      taken = n;
+      cycles = λ count s r.
+          let i = access-only (equal v) l q u e (t .pos) (t .le) r lt ∙ pass-is (equal v) l q u n (on (a .offset) count) lt in
+          (ap (λ (z : State). z .count) i, ap (λ (z : State). z .at) i);
+      some = λ count. (_, access-ends (equal v) l q u e (t .pos) (t .le) (on (a .offset) count) lt);
+      device = on-time re p e x;
+    }
 
 -- ---- since the reset
 
@@ -365,9 +378,9 @@ unfolding afterAll
 after-one [] c a = refl
 after-one (d ∷ cs) c a = after-one cs c (after d a)
 
-quiet-one : {cs : List Call} (c : Call) → resets c ≡ false → Quiet cs → Quiet (cs ++ (c ∷ []))
-quiet-one c e none = more e none
-quiet-one c e (more f q) = more f (quiet-one c e q)
+no-reset-one : {cs : List Call} (c : Call) → resets c ≡ false → NoReset cs → NoReset (cs ++ (c ∷ []))
+no-reset-one c e none = more e none
+no-reset-one c e (more f q) = more f (no-reset-one c e q)
 
 one-more : {a : Arbiter} (c : Call) → resets c ≡ false → Since a → Since (after c a)
 one-more {a} c e s = record {
@@ -376,13 +389,13 @@ one-more {a} c e s = record {
   slot = s .slot;
   sized-is = s .sized-is;
   calls = s .calls ++ (c ∷ []);
-  quiet = quiet-one c e (s .quiet);
+  no-reset = no-reset-one c e (s .no-reset);
   leads = ap (after c) (s .leads) ∙ sym (after-one (s .calls) c (after (Reset (s .cores) (s .slot)) (s .before)));
 }
 
 from-reset : (a : Arbiter) (cores slot : ℕ) → sized cores slot ≡ true → Since (after (Reset cores slot) a)
 unfolding afterAll
-from-reset a cores slot e = record { before = a; cores = cores; slot = slot; sized-is = e; calls = []; quiet = none; leads = refl }
+from-reset a cores slot e = record { before = a; cores = cores; slot = slot; sized-is = e; calls = []; no-reset = none; leads = refl }
 
 -- a state that is reached has a last reset
 pub since : {a : Arbiter} → Reached a → Since a
@@ -393,10 +406,17 @@ since (next {a} r (Write p n v)) = one-more (Write p n v) refl (since r)
 since (next {a} r Tick) = one-more Tick refl (since r)
 since (next {a} r (Reset cores slot)) = either (sized cores slot) (λ e. from-reset a cores slot e) (λ e. one-more (Reset cores slot) e (since r))
 
--- the offset is the number of ticks since then, modulo P
-pub offset-since : {b : Arbiter} (s : Since b) → b .offset ≡ ticks (s .calls) % (s .cores * s .slot)
+-- cores and slot are those of that reset, and the offset is the number of ticks since then, modulo P
+pub since-reset : {b : Arbiter} (s : Since b) → (b .cores ≡ s .cores) × (b .slot ≡ s .slot) × (b .offset ≡ ticks (s .calls) % (b .cores * b .slot))
 unfolding cleared
-offset-since {b} s =
+since-reset {b} s =
     let z = cleared (s .cores) (s .slot) in
+    let f = cleared-formed (s .cores) (s .slot) (s .sized-is) in
     let e : b ≡ afterAll (s .calls) z = s .leads ∙ ap (afterAll (s .calls)) (reset-leaves (s .cores) (s .slot) (s .before) (s .sized-is)) in
-    ap (λ (a : Arbiter). a .offset) e ∙ clock z (cleared-formed (s .cores) (s .slot) (s .sized-is)) (s .calls) (s .quiet) ∙ ap (λ (n : ℕ). n % (s .cores * s .slot)) (omega arith)
+    let k = clocked-all z (s .calls) (s .no-reset) 0 z (clocked-from z f) in
+    let c : b .cores ≡ s .cores = ap (λ (a : Arbiter). a .cores) e ∙ k .cores-kept in
+    let l : b .slot ≡ s .slot = ap (λ (a : Arbiter). a .slot) e ∙ k .slot-kept in (
+      c,
+      l,
+      ap (λ (a : Arbiter). a .offset) e ∙ k .moved ∙ ap₂ (λ (n P : ℕ). n % P) (omega arith) (ap₂ _*_ (sym c) (sym l)),
+    )

@@ -13,7 +13,7 @@ use Rattle.arbiter.specs.declared.Call.the-variants.{Read, Line, Write, 
 use Rattle.arbiter.specs.declared.Registers.{Registers}
 use Rattle.arbiter.specs.declared.Reply.{Reply}
 use Rattle.arbiter.specs.declared.Reply.the-variants.{Accepted, Value, Refused}
-use Rattle.arbiter.specs.Device.{busy, flagsFit, fits, allFit, formed, usable, clear, put, registerAt, lineOf, writable, cleared, starts, turned, run, fallen, steppedFrom, ticked}
+use Rattle.arbiter.specs.Device.{busy, flagsFit, fits, allFit, formed, usable, clear, withRegisters, registerAt, lineOf, writable, cleared, startsNow, turned, countDown, fallen, steppedFrom, ticked}
 use Rattle.arbiter.specs.Calls.{written, outcome, answer, afterAll}
 
 -- the flags of a core whose length was written at an offset, so many ticks later
@@ -25,7 +25,7 @@ abbrev waiting : Arbiter
 waiting = afterAll (Write 0 0 2 ∷ []) (cleared 2 5)
 
 abbrev with-core : ℕ → ℕ → ℕ → ℕ → Arbiter
-with-core p length flags mask = put (cleared 2 5) p (record { length = length; flags = flags; mask = mask })
+with-core p length flags mask = withRegisters (cleared 2 5) p (record { length = length; flags = flags; mask = mask })
 
 record Worked : Type 0 where
   -- "e = 2: offset 3 gives 0, offset 4 gives 6"
@@ -65,7 +65,7 @@ record Worked : Type 0 where
   reset-any : answer (Reset 2 5) (with-core 1 6 9 7) ≡ Accepted
 
 worked : Worked
-unfolding inSlot busOk busy flagsFit fits allFit formed usable registerAt lineOf writable cleared starts turned run fallen steppedFrom ticked written outcome afterAll
+unfolding inSlot busOk busy flagsFit fits allFit formed usable registerAt lineOf writable cleared startsNow turned countDown fallen steppedFrom ticked written outcome afterAll
 worked = record {
   from-3 = (refl, refl);
   from-4 = (refl, refl, refl);

@@ -16,12 +16,12 @@ unfoldable pub bytesOf : Arbiter → List ℕ
 bytesOf a = a .cores ∷ a .slot ∷ a .offset ∷ flat (a .registers)
 
 -- the registers in bytes
-unfoldable pub cut : List ℕ → List Registers
-cut [] = []
-cut (l ∷ []) = []
-cut (l ∷ f ∷ []) = []
-cut (l ∷ f ∷ m ∷ s) = record { length = l; flags = f; mask = m } ∷ cut s
+unfoldable pub registersIn : List ℕ → List Registers
+registersIn [] = []
+registersIn (l ∷ []) = []
+registersIn (l ∷ f ∷ []) = []
+registersIn (l ∷ f ∷ m ∷ s) = record { length = l; flags = f; mask = m } ∷ registersIn s
 
 -- the state in bytes: of 51 bytes `bytesOf` gives it back (`there-and-back` in proofs/Packing.antt)
 unfoldable pub stateOf : List ℕ → Arbiter
-stateOf s = record { cores = getD s 0 0; slot = getD s 1 0; offset = getD s 2 0; registers = cut (drop 3 s) }
+stateOf s = record { cores = getD s 0 0; slot = getD s 1 0; offset = getD s 2 0; registers = registersIn (drop 3 s) }

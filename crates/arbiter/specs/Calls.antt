@@ -5,7 +5,7 @@ use lib.Dec.{ltb, eqb}
 use Prim.Native.Nat.{ℕ}
 use Rattle.image.specs.declared.Refusal.{Refusal}
 use Rattle.image.specs.declared.Refusal.the-variants.{Register, Busy}
-use Rattle.arbiter.specs.Device.{sized, formed, usable, registersOf, put, registerAt, lineOf, writable, busy, cleared, ticked}
+use Rattle.arbiter.specs.Device.{sized, formed, usable, registersOf, withRegisters, registerAt, lineOf, writable, busy, cleared, ticked}
 use Rattle.arbiter.specs.declared.Arbiter.{Arbiter}
 use Rattle.arbiter.specs.declared.Call.{Call}
 use Rattle.arbiter.specs.declared.Call.the-variants.{Read, Line, Write, Tick, Reset}
@@ -29,8 +29,8 @@ leave a = record { state = a; reply = Accepted }
 unfoldable pub written : ℕ → ℕ → ℕ → Arbiter → Outcome
 written p n v a =
     cond (eqb n 0)
-    (cond (busy (registersOf a p)) (refuse Busy a) (leave (put a p (record { length = v; flags = 1; mask = registersOf a p .mask }))))
-    (leave (put a p (record { length = registersOf a p .length; flags = registersOf a p .flags; mask = v })))
+    (cond (busy (registersOf a p)) (refuse Busy a) (leave (withRegisters a p (record { length = v; flags = 1; mask = registersOf a p .mask }))))
+    (leave (withRegisters a p (record { length = registersOf a p .length; flags = registersOf a p .flags; mask = v })))
 
 -- What a call answers, and the state that it leaves. "15 register, judged first"; a reset asks nothing of the state.
 unfoldable pub outcome : Call → Arbiter → Outcome

@@ -15,7 +15,8 @@ use Rattle.arbiter.specs.declared.Registers.{Registers}
 abbrev pub sized : ℕ → ℕ → Bool
 sized cores slot = busOk cores slot 0
 
--- "bit 0 waiting, bit 1 running": "while waiting or running"
+-- "while waiting or running". Flags in range have one bit at most, so a bit is a number: "bit 0 waiting" is 1, "bit 1 running" is 2 and
+-- "bit 2 done" is 4. Other flags are refused before this is asked
 unfoldable pub busy : Registers → Bool
 busy r = eqb (r .flags) 1 || eqb (r .flags) 2
 
@@ -51,10 +52,10 @@ abbrev pub registersOf : Arbiter → ℕ → Registers
 registersOf a p = getD (a .registers) p clear
 
 -- the state with other registers of core p
-abbrev pub put : Arbiter → ℕ → Registers → Arbiter
-put a p r = record { cores = a .cores; slot = a .slot; offset = a .offset; registers = set (a .registers) p r }
+abbrev pub withRegisters : Arbiter → ℕ → Registers → Arbiter
+withRegisters a p r = record { cores = a .cores; slot = a .slot; offset = a .offset; registers = set (a .registers) p r }
 
--- "0 length, 1 flags .., 2 interrupt mask"
+-- the registers by number: "0 length", "1 flags", "2 interrupt mask"
 unfoldable pub registerAt : ℕ → Registers → ℕ
 registerAt n r = cond (eqb n 0) (r .length) (cond (eqb n 1) (r .flags) (r .mask))
 
@@ -77,20 +78,20 @@ abbrev pub slotsAt : Arbiter → ℕ → Slots
 slotsAt a p = record { cores = a .cores; slot = a .slot; core = p }
 
 -- a waiting core whose slot, at the offset o, holds its whole length: `inSlot` of document 01's bus
-unfoldable pub starts : Slots → ℕ → Registers → Bool
-starts v o r = eqb (r .flags) 1 && inSlot v (r .length) o
+unfoldable pub startsNow : Slots → ℕ → Registers → Bool
+startsNow v o r = eqb (r .flags) 1 && inSlot v (r .length) o
 
 -- "a waiting core whose slot still holds its whole length turns from waiting to running"
 unfoldable pub turned : Slots → ℕ → Registers → Registers
-turned v o r = cond (starts v o r) (record { length = r .length; flags = 2; mask = r .mask }) r
+turned v o r = cond (startsNow v o r) (record { length = r .length; flags = 2; mask = r .mask }) r
 
--- "a running length .. falls by one, and at zero running gives way to done"
-unfoldable pub run : Registers → Registers
-run r = cond (leb (r .length) 1) (record { length = 0; flags = 4; mask = r .mask }) (record { length = r .length - 1; flags = 2; mask = r .mask })
+-- one that is running: its length "falls by one, and at zero running gives way to done"
+unfoldable pub countDown : Registers → Registers
+countDown r = cond (leb (r .length) 1) (record { length = 0; flags = 4; mask = r .mask }) (record { length = r .length - 1; flags = 2; mask = r .mask })
 
 -- "a running length, that one too"
 unfoldable pub fallen : Registers → Registers
-fallen r = cond (eqb (r .flags) 2) (run r) r
+fallen r = cond (eqb (r .flags) 2) (countDown r) r
 
 -- a core's registers after a tick
 abbrev pub stepped : Slots → ℕ → Registers → Registers

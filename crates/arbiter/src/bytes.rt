@@ -39,7 +39,7 @@ pub fn state_of(bytes: &[u8]) -> Arbiter
 }
 
 // Sets three bytes from a place on.
-fn put(bytes: &mut [u8], at: usize, first: u8, second: u8, third: u8)
+fn put_three(bytes: &mut [u8], at: usize, first: u8, second: u8, third: u8)
     requires { ⌜ at + 3 ≤ length (now bytes) ⌝ }
     ensures { λ _. ⌜ now (bytes .exit) ≡ set (set (set (now (bytes .entry)) at first) (at + 1) second) (at + 2) third ⌝ }
 {
@@ -53,12 +53,12 @@ pub fn put_state(bytes: &mut [u8], s: Arbiter)
     requires { ⌜ length (now bytes) ≡ 51 ⌝ }
     ensures { λ _. ⌜ now (bytes .exit) ≡ bytesOf s ⌝ }
 {
-    put(bytes, 0, s.cores, s.slot, s.offset);
+    put_three(bytes, 0, s.cores, s.slot, s.offset);
     let registers = s.registers;
     let mut i = 0;
     while i < 16 {
         let r = registers[i];
-        put(bytes, 3 + 3 * i, r.length, r.flags, r.mask);
+        put_three(bytes, 3 + 3 * i, r.length, r.flags, r.mask);
         i += 1;
     }
 }

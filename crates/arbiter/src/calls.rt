@@ -34,7 +34,7 @@ fn accept(s: Arbiter) -> Outcome
     }
 }
 
-fn answer(value: u8, s: Arbiter) -> Outcome
+fn tell_value(value: u8, s: Arbiter) -> Outcome
     ensures { λ o. ⌜ o ≡ tell value s ⌝ }
 {
     Outcome {
@@ -96,15 +96,16 @@ fn store(s: Arbiter, core: usize, register: usize, value: u8) -> Outcome
 {
     let r = registers_at(s, core);
     if register == 0 {
-        if is_busy(r) {
-            return refuse(Refusal::Busy, s);
-        }
         let waiting = Registers {
             length: value,
             flags: 1,
             mask: r.mask,
         };
-        return accept(with_registers(s, core, waiting));
+        let next = with_registers(s, core, waiting);
+        if is_busy(r) {
+            return refuse(Refusal::Busy, s);
+        }
+        return accept(next);
     }
     let masked = Registers {
         length: r.length,
@@ -123,7 +124,7 @@ pub fn on_read(s: Arbiter, core: usize, register: usize) -> Outcome
     if 3 <= register {
         return refuse(Refusal::Register, s);
     }
-    answer(register_value(register, registers_at(s, core)), s)
+    tell_value(register_value(register, registers_at(s, core)), s)
 }
 
 pub fn on_line(s: Arbiter, core: usize) -> Outcome
@@ -132,7 +133,7 @@ pub fn on_line(s: Arbiter, core: usize) -> Outcome
     if !core_ok(s, core) {
         return refuse(Refusal::Register, s);
     }
-    answer(line_value(registers_at(s, core)), s)
+    tell_value(line_value(registers_at(s, core)), s)
 }
 
 pub fn on_write(s: Arbiter, core: usize, register: usize, value: usize) -> Outcome

@@ -7,10 +7,10 @@
 // Wrong answers that this rules out: an access that starts where its slot does not hold it whole, a first cycle that is not counted, done that
 // is kept when a length is written, 16 for a call that 15 refuses, an unused core's registers that are not looked at.
 //
-// Of calls one after the other (specs/Sequences.antt): a length is done after Equation 7's wait and its own cycles and no sooner, which are the
-// cycles of an access of a run (`on-time`, `as-the-clock` in proofs/Timing.antt); other cores never alter a core's registers or line
-// (`undisturbed` in proofs/Apart.antt); no two cores are running (`one-running` in proofs/Reach.antt), and the offset is the number of ticks
-// since the reset modulo P (`offset-since` in proofs/Timing.antt).
+// Of calls one after the other (specs/Sequences.antt), in states reached from a reset: a length is done after Equation 7's wait and its own
+// cycles and no sooner, which are the cycles of an access of a run (`on-time`, `as-the-clock` in proofs/Timing.antt); no two cores are running
+// (`one-running` in proofs/Reach.antt); cores and slot are the reset's, and the offset is the number of ticks since it modulo P
+// (`since-reset` in proofs/Timing.antt). From any state: other cores never alter a core's registers or line (`undisturbed` in proofs/Apart.antt).
 //
 // src/: states (what a state may hold), ticks, calls (each entry's call with the state by value), bytes (the state as 51 bytes).
 ghost use Rattle.arbiter.specs.declared.Call.the-variants.{Read, Line, Write, Tick, Reset};

@@ -1,7 +1,7 @@
 // What a state may hold (15), and the registers of one core.
 ghost use mathlib.Core.Path.{_≡_};
 ghost use Prim.Native.Nat.{_<_};
-ghost use Rattle.arbiter.specs.Device.{fits, allFit, formed, usable, registersOf, put};
+ghost use Rattle.arbiter.specs.Device.{fits, allFit, formed, usable, registersOf, withRegisters};
 use crate::Arbiter;
 use crate::Registers;
 
@@ -75,7 +75,7 @@ pub fn registers_at(s: Arbiter, core: usize) -> Registers
 
 pub fn with_registers(s: Arbiter, core: usize, r: Registers) -> Arbiter
     requires { ⌜ core < 16 ⌝ }
-    ensures { λ t. ⌜ t ≡ put s core r ⌝ }
+    ensures { λ t. ⌜ t ≡ withRegisters s core r ⌝ }
 {
     let mut registers = s.registers;
     registers[core] = r;

@@ -2,7 +2,7 @@
 ghost use mathlib.Core.Path.{_≡_};
 ghost use mathlib.Core.Bool.{true};
 ghost use Rattle.bus.specs.Waits.{slotsOf};
-ghost use Rattle.arbiter.specs.Device.{formed, starts, turned, run, stepped, ticked};
+ghost use Rattle.arbiter.specs.Device.{formed, startsNow, turned, countDown, stepped, ticked};
 ghost use Rattle.arbiter.specs.Steps.{Small};
 use crate::Arbiter;
 use crate::Registers;
@@ -11,7 +11,7 @@ use bus::Bus;
 // Does the access start now: is the core waiting, and does its slot still hold the whole length?
 fn starting(b: Bus, offset: usize, r: Registers) -> bool
     requires { ⌜ Small b offset ⌝ }
-    ensures { λ t. ⌜ t ≡ starts (slotsOf b) offset r ⌝ }
+    ensures { λ t. ⌜ t ≡ startsNow (slotsOf b) offset r ⌝ }
 {
     if r.flags != 1 {
         return false;
@@ -40,8 +40,8 @@ fn turn(b: Bus, offset: usize, r: Registers) -> Registers
 }
 
 // A running length falls by one, and at zero running gives way to done.
-fn run_on(r: Registers) -> Registers
-    ensures { λ t. ⌜ t ≡ run r ⌝ }
+fn count_down(r: Registers) -> Registers
+    ensures { λ t. ⌜ t ≡ countDown r ⌝ }
 {
     if r.length <= 1 {
         return Registers {
@@ -64,7 +64,7 @@ fn step(b: Bus, offset: usize, r: Registers) -> Registers
 {
     let t = turn(b, offset, r);
     if t.flags == 2 {
-        return run_on(t);
+        return count_down(t);
     }
     t
 }

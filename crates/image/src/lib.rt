@@ -26,7 +26,7 @@ pub mod read;
 pub mod rows;
 mod weigh;
 
-// Why a caller gets no answer: the words of the papers' tables, in one list. Judging answers the first nine; `Table` is for a caller that lends
+// Why a caller gets no answer: the words of the papers' tables but 21, in one list. Judging answers the first nine; `Table` is for a caller that lends
 // a table, and of document 02 `Register` and `Busy` for calls to the arbiter (15, 16), `Block` for one that edits a block (19).
 pub enum Refusal {
     Cut,

@@ -57,7 +57,7 @@ pub fn length_ok(tag: usize, len: usize) -> bool
     }
 }
 
-// Are these numbers of a bus in the ranges of tag 1? Any numbers may be asked about: a reset's of the arbiter are its caller's.
+// Are these numbers of a bus in the ranges of tag 1? Any numbers may be asked about: a reset of the arbiter passes on its caller's.
 pub fn bus_ok(cores: usize, slot: usize, core: usize) -> bool
     ensures { λ r. ⌜ r ≡ busOk cores slot core ⌝ }
 {

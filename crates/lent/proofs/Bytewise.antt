@@ -1,7 +1,7 @@
 -- A call on the bytes is the call on the state that they say, and so are calls one after the other.
 use borrow.Author.Tests.{leb-true, eqb-true, le-leb, eq-eqb}
 use native.Mathlib.Omega.{arith}
-use mathlib.Core.Path.{_≡_, refl, sym, _∙_, ap}
+use mathlib.Core.Path.{_≡_, refl, sym, _∙_, ap, subst}
 use mathlib.Core.Bool.{true, false}
 use mathlib.Core.List.{List, [], _∷_}
 use lib.ListN.{length, getD, drop}
@@ -12,7 +12,12 @@ use Rattle.image.specs.declared.Refusal.{Refusal}
 use Rattle.image.proofs.Numbers.{both}
 use Rattle.arbiter.specs.declared.Call.{Call}
 use Rattle.arbiter.specs.Calls.{outcome, after, answer, afterAll}
+use Rattle.arbiter.specs.Device.{sized}
 use Rattle.arbiter.specs.Conditions.{RefusedFor}
+use Rattle.arbiter.specs.Sequences.{Reached, fresh}
+use Rattle.arbiter.specs.declared.Call.the-variants.{Reset}
+use Rattle.arbiter.proofs.Reach.{reached-all}
+use Rattle.runs.proofs.Cases.{either}
 use Rattle.arbiter.proofs.Kept.{sixteen}
 use Rattle.arbiter.proofs.Packing.{state-again, there-and-back, bytes-length, cores-length}
 use Rattle.arbiter.proofs.Reasons.{promised}
@@ -22,7 +27,7 @@ use Rattle.arbiter.specs.declared.Outcome.{Outcome}
 use Rattle.arbiter.specs.declared.Reply.{Reply}
 use Rattle.arbiter.specs.declared.Reply.the-variants.{Accepted, Value, Refused}
 use Rattle.lent.specs.Answers.{doneInto, refusedInto, beside}
-use Rattle.lent.specs.OnBytes.{repliedInto, room, arbiterInto, arbiterCall, WholeCall}
+use Rattle.lent.specs.OnBytes.{repliedInto, room, arbiterInto, arbiterCall, valueOf, Lends, WholeCall, Asked, bytesAfter, callsOf, AllMade}
 
 module _ (lent : List ℕ) (r : Reply) where
   pub replied-accepted : (call : ℕ × List ℕ) → r ≡ Accepted → doneInto lent ≡ call → repliedInto r lent ≡ call
@@ -58,10 +63,13 @@ module _ (c : Call) (s lent : List ℕ) where
 -- ---- what the caller finds
 
 module _ (c : Call) (s lent : List ℕ) (status : ℕ) (exit found : List ℕ) (is : arbiterCall c s lent ≡ (status, exit, found)) where
-  module _ (long : length s ≡ 51) (places : 2 ≤ length lent) where
+  module _ (h : Lends s lent) where
     there : arbiterInto (outcome c (stateOf s)) lent ≡ (status, exit, found)
     unfolding arbiterCall room
-    there = rw (le-leb 2 (length lent) places, eq-eqb (length s) 51 long) at is
+    there = rw (le-leb 2 (length lent) (h .1), eq-eqb (length s) 51 (h .0)) at is
+
+    leads : exit ≡ bytesOf (after c (stateOf s))
+    leads = sym (ap (λ (y : ℕ × List ℕ × List ℕ). y .1) there)
 
     -- by the answer
     told : (r : Reply) → answer c (stateOf s) ≡ r → beside (bytesOf (after c (stateOf s))) (repliedInto r lent) ≡ (status, exit, found)
@@ -76,50 +84,83 @@ module _ (c : Call) (s lent : List ℕ) (status : ℕ) (exit found : List ℕ) (
           sym (ap (λ (y : ℕ × List ℕ × List ℕ). y .0) t),
           ap (λ (l : List ℕ). getD l 0 0) (sym f),
           ap (λ (l : List ℕ). getD l 1 0) (sym f),
-          sym (ap (λ (y : ℕ × List ℕ × List ℕ). y .1) t) ∙ ap bytesOf (p .because r 0 e .2) ∙ there-and-back s long,
+          leads ∙ ap bytesOf (p .because r 0 e .2) ∙ there-and-back s (h .0),
         )
 
-    leads : exit ≡ bytesOf (after c (stateOf s))
-    leads = sym (ap (λ (y : ℕ × List ℕ × List ℕ). y .1) there)
+    -- a reply that is no refusal puts 0 and the value
+    done-told : (r : Reply) → answer c (stateOf s) ≡ r → ((x : Refusal) (place : ℕ) → r ≡ Refused x place → ⊥)
+        → (status ≡ 0) × (getD found 0 0 ≡ 0) × (getD found 1 0 ≡ valueOf r)
+    done-told Accepted e n = let t = told Accepted e in (
+      sym (ap (λ (y : ℕ × List ℕ × List ℕ). y .0) t),
+      ap (λ (y : ℕ × List ℕ × List ℕ). getD (y .2) 0 0) (sym t),
+      ap (λ (y : ℕ × List ℕ × List ℕ). getD (y .2) 1 0) (sym t),
+    )
+    done-told (Value v) e n = let t = told (Value v) e in (
+      sym (ap (λ (y : ℕ × List ℕ × List ℕ). y .0) t),
+      ap (λ (y : ℕ × List ℕ × List ℕ). getD (y .2) 0 0) (sym t),
+      ap (λ (y : ℕ × List ℕ × List ℕ). getD (y .2) 1 0) (sym t),
+    )
+    done-told (Refused r place) e n = absurd (n r place refl)
 
-    done-said : ((r : Refusal) → RefusedFor (stateOf s) c r → ⊥) → (r : Reply) → answer c (stateOf s) ≡ r
-        → (status ≡ 0) × (getD found 0 0 ≡ 0) × (stateOf exit ≡ after c (stateOf s))
-    done-said free Accepted e =
-        let t = told Accepted e in (
-          sym (ap (λ (y : ℕ × List ℕ × List ℕ). y .0) t),
-          ap (λ (y : ℕ × List ℕ × List ℕ). getD (y .2) 0 0) (sym t),
-          ap stateOf leads ∙ state-again (after c (stateOf s)),
-        )
-    done-said free (Value v) e =
-        let t = told (Value v) e in (
-          sym (ap (λ (y : ℕ × List ℕ × List ℕ). y .0) t),
-          ap (λ (y : ℕ × List ℕ × List ℕ). getD (y .2) 0 0) (sym t),
-          ap stateOf leads ∙ state-again (after c (stateOf s)),
-        )
-    done-said free (Refused r place) e = absurd (free r (promised c (stateOf s) (outcome c (stateOf s)) refl .because r place e .0))
+    done-said : ((r : Refusal) → RefusedFor (stateOf s) c r → ⊥)
+        → (status ≡ 0) × (getD found 0 0 ≡ 0) × (getD found 1 0 ≡ valueOf (answer c (stateOf s))) × (stateOf exit ≡ after c (stateOf s))
+    done-said free =
+        let d = done-told (answer c (stateOf s)) refl (λ r place e. free r (promised c (stateOf s) (outcome c (stateOf s)) refl .because r place e .0)) in
+        (d .0, d .1, d .2, ap stateOf leads ∙ state-again (after c (stateOf s)))
+
+    refused-because : (r : Reply) → answer c (stateOf s) ≡ r → status ≡ 1 → (x : Refusal) × RefusedFor (stateOf s) c x × (getD found 0 0 ≡ numberOf x)
+    refused-because Accepted e z = absurd (let w = ap (λ (y : ℕ × List ℕ × List ℕ). y .0) (told Accepted e) in omega arith)
+    refused-because (Value v) e z = absurd (let w = ap (λ (y : ℕ × List ℕ × List ℕ). y .0) (told (Value v) e) in omega arith)
+    refused-because (Refused r place) e z =
+        let x = promised c (stateOf s) (outcome c (stateOf s)) refl .because r place e .0 in
+        (r, x, refused-said r x .1)
+
+    none-refused : status ≡ 0 → (r : Refusal) → RefusedFor (stateOf s) c r → ⊥
+    none-refused z r x = let w = refused-said r x .0 in omega arith
+
+  -- by what is lent
+  not-lent : (Lends s lent → ⊥) → _≡_ {A = ℕ × List ℕ × List ℕ} (2, s, lent) (status, exit, found)
+  not-lent n = sym (no-room c s lent (either (room s lent) (λ t. absurd (n (has-room s lent t))) (λ t. t))) ∙ is
+
+  lent-if : (status ≡ 2 → ⊥) → Lends s lent
+  lent-if n = either (room s lent) (has-room s lent) (λ t. absurd (n (sym (ap (λ (y : ℕ × List ℕ × List ℕ). y .0) (sym (no-room c s lent t) ∙ is)))))
 
   pub whole-call : WholeCall c s lent status exit found
   whole-call = record {
-    refused = λ long places r x. refused-said (omega (arith, long)) (omega (arith, places)) r x;
-    done = λ long places free. done-said (omega (arith, long)) (omega (arith, places)) free (answer c (stateOf s)) refl;
+    refused = λ h r x. refused-said (omega (arith, h .0), omega (arith, h .1)) r x;
+    done = λ h free. done-said (omega (arith, h .0), omega (arith, h .1)) free;
+    because = λ z. let h = lent-if (λ e. omega arith) in (h, refused-because h (answer c (stateOf s)) refl z);
+    possible = λ z. let h = lent-if (λ e. omega arith) in (h, none-refused h z);
+    short = λ n. let e = not-lent n in (
+      sym (ap (λ (y : ℕ × List ℕ × List ℕ). y .0) e),
+      sym (ap (λ (y : ℕ × List ℕ × List ℕ). y .1) e),
+      sym (ap (λ (y : ℕ × List ℕ × List ℕ). y .2) e),
+    );
   }
 
 -- ---- one call after the other
 
--- the bytes that calls leave
-unfoldable pub bytesAfter : List Call → List ℕ → List ℕ
-bytesAfter [] s = s
-bytesAfter (c ∷ cs) s = bytesAfter cs (arbiterCall c s (0 ∷ 0 ∷ []) .1)
+module _ (c : Call) (s lent : List ℕ) (h : Lends s lent) where
+  -- the bytes of a call say the state that it leaves, and are 51
+  call-leads : stateOf (arbiterCall c s lent .1) ≡ after c (stateOf s)
+  call-leads = ap stateOf (leads c s lent _ _ _ refl h) ∙ state-again (after c (stateOf s))
 
-long-still : (c : Call) (s : List ℕ) → length s ≡ 51 → length (arbiterCall c s (0 ∷ 0 ∷ []) .1) ≡ 51
-unfolding stateOf
-long-still c s e =
-    ap (λ (t : List ℕ). length t) (leads c s (0 ∷ 0 ∷ []) _ _ _ refl e (omega arith)) ∙ bytes-length (after c (stateOf s)) (sixteen c (stateOf s) (cores-length s e))
+  call-long : length (arbiterCall c s lent .1) ≡ 51
+  unfolding stateOf
+  call-long =
+      ap (λ (t : List ℕ). length t) (leads c s lent _ _ _ refl h) ∙ bytes-length (after c (stateOf s)) (sixteen c (stateOf s) (cores-length s (h .0)))
 
--- they say the state that the calls on the state lead to
-pub bytes-lead : (cs : List Call) (s : List ℕ) → length s ≡ 51 → stateOf (bytesAfter cs s) ≡ afterAll cs (stateOf s)
-unfolding bytesAfter afterAll
-bytes-lead [] s e = refl
-bytes-lead (c ∷ cs) s e =
-    bytes-lead cs (arbiterCall c s (0 ∷ 0 ∷ []) .1) (long-still c s e)
-    ∙ ap (afterAll cs) (ap stateOf (leads c s (0 ∷ 0 ∷ []) _ _ _ refl e (omega arith)) ∙ state-again (after c (stateOf s)))
+-- so do those of calls one after the other
+pub bytes-lead : (xs : List Asked) (s : List ℕ) → AllMade xs → length s ≡ 51 → stateOf (bytesAfter xs s) ≡ afterAll (callsOf xs) (stateOf s)
+unfolding bytesAfter callsOf afterAll
+bytes-lead [] s m e = refl
+bytes-lead (x ∷ xs) s m e =
+    bytes-lead xs (arbiterCall (x .call) s (x .lent) .1) (m .1) (call-long (x .call) s (x .lent) (e, m .0))
+    ∙ ap (afterAll (callsOf xs)) (call-leads (x .call) s (x .lent) (e, m .0))
+
+-- and behind a reset that is accepted they are reached states: every law of `arbiter` about those holds of them
+pub bytes-reached : (cores slot : ℕ) (lent : List ℕ) (xs : List Asked) (s : List ℕ) → sized cores slot ≡ true → 2 ≤ length lent → AllMade xs → length s ≡ 51
+    → Reached (stateOf (bytesAfter (record { call = Reset cores slot; lent = lent } ∷ xs) s))
+unfolding afterAll callsOf
+bytes-reached cores slot lent xs s z h m e =
+    subst Reached (sym (bytes-lead (record { call = Reset cores slot; lent = lent } ∷ xs) s (h, m) e)) (reached-all (callsOf xs) (fresh (stateOf s) cores slot z))

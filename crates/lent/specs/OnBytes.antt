@@ -4,14 +4,14 @@
 -- Statuses: 0 done, 1 refused, 2 the answer has fewer than 2 places or the state is not 51 bytes long. With 2 both keep their contents.
 use mathlib.Core.Path.{_≡_}
 use mathlib.Core.Bool.{Bool, cond, _&&_}
-use mathlib.Core.List.{List, _∷_}
+use mathlib.Core.List.{List, [], _∷_}
 use lib.ListN.{length, getD, drop}
 use lib.Dec.{leb, eqb}
 use Prim.Native.Nat.{ℕ, _≤_}
 use Rattle.image.specs.Judged.{numberOf}
 use Rattle.image.specs.declared.Refusal.{Refusal}
 use Rattle.arbiter.specs.declared.Call.{Call}
-use Rattle.arbiter.specs.Calls.{outcome, after}
+use Rattle.arbiter.specs.Calls.{outcome, after, answer}
 use Rattle.arbiter.specs.Conditions.{RefusedFor}
 use Rattle.arbiter.specs.Bytes.{bytesOf, stateOf}
 use Rattle.arbiter.specs.declared.Outcome.{Outcome}
@@ -37,10 +37,45 @@ arbiterInto o lent = beside (bytesOf (o .state)) (repliedInto (o .reply) lent)
 unfoldable pub arbiterCall : Call → List ℕ → List ℕ → ℕ × List ℕ × List ℕ
 arbiterCall c state lent = cond (room state lent) (arbiterInto (outcome c (stateOf state)) lent) (2, state, lent)
 
--- what the caller finds, of 51 bytes and two places or more: a call that is refused says for what, and leaves every byte; any other is done, and
--- the bytes then say the state that it leaves
+-- the value read, 0 where nothing is
+abbrev pub valueOf : Reply → ℕ
+valueOf Accepted = 0
+valueOf (Value v) = v
+valueOf (Refused r place) = 0
+
+-- 51 bytes and two places or more
+abbrev pub Lends : List ℕ → List ℕ → Type 0
+Lends state lent = (length state ≡ 51) × (2 ≤ length lent)
+
+-- what the caller finds: a call that is refused says for what, and leaves every byte; any other is done, the answer has the value read, and the
+-- bytes say the state that it leaves. Either status says so, and with less lent nothing is written
 pub record WholeCall (c : Call) (state lent : List ℕ) (status : ℕ) (exit found : List ℕ) : Type 0 where
-  pub refused : length state ≡ 51 → 2 ≤ length lent → (r : Refusal) → RefusedFor (stateOf state) c r
+  pub refused : Lends state lent → (r : Refusal) → RefusedFor (stateOf state) c r
       → (status ≡ 1) × (getD found 0 0 ≡ numberOf r) × (getD found 1 0 ≡ 0) × (exit ≡ state)
-  pub done : length state ≡ 51 → 2 ≤ length lent → ((r : Refusal) → RefusedFor (stateOf state) c r → ⊥)
-      → (status ≡ 0) × (getD found 0 0 ≡ 0) × (stateOf exit ≡ after c (stateOf state))
+  pub done : Lends state lent → ((r : Refusal) → RefusedFor (stateOf state) c r → ⊥)
+      → (status ≡ 0) × (getD found 0 0 ≡ 0) × (getD found 1 0 ≡ valueOf (answer c (stateOf state))) × (stateOf exit ≡ after c (stateOf state))
+  pub because : status ≡ 1 → Lends state lent × ((r : Refusal) × RefusedFor (stateOf state) c r × (getD found 0 0 ≡ numberOf r))
+  pub possible : status ≡ 0 → Lends state lent × ((r : Refusal) → RefusedFor (stateOf state) c r → ⊥)
+  pub short : (Lends state lent → ⊥) → (status ≡ 2) × (exit ≡ state) × (found ≡ lent)
+
+-- ---- one call after the other
+
+-- a call, and the answer that is lent to it
+pub record Asked : Type 0 where
+  pub call : Call
+  pub lent : List ℕ
+
+-- the bytes that calls leave, the first of the list first
+unfoldable pub bytesAfter : List Asked → List ℕ → List ℕ
+bytesAfter [] s = s
+bytesAfter (x ∷ xs) s = bytesAfter xs (arbiterCall (x .call) s (x .lent) .1)
+
+-- the calls alone
+unfoldable pub callsOf : List Asked → List Call
+callsOf [] = []
+callsOf (x ∷ xs) = x .call ∷ callsOf xs
+
+-- each with two places or more: with fewer there is no call
+abbrev pub AllMade : List Asked → Type 0
+AllMade [] = Unit {0}
+AllMade (x ∷ xs) = (2 ≤ length (x .lent)) × AllMade xs

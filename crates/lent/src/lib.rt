@@ -1,11 +1,12 @@
 // lent: what the library's functions do with what C and Rust programs lend: the first places of an answer are set, and a call to the arbiter is
 // made on the bytes of its state.
 //
-// `put`, `done` and `refuse` set an answer's first two places and say the status (specs/Answers.antt). `call` asks nothing of its caller: the
+// `put`, `done` and `refuse` set an answer's first two places, the latter two with the status (specs/Answers.antt). `call` asks nothing of its caller: the
 // status, the bytes and the answer at exit equal `arbiterCall` (specs/OnBytes.antt), which is `outcome` of crate `arbiter` over the bytes, for
 // every call, refused ones too, and every length of both slices. Wrong answers that it rules out: a state of 50 bytes that is taken, a place
 // that is told before its number, an answer of one place that is written to.
-// Calls one after the other lead where `afterAll` of `arbiter` leads, so its laws hold of the bytes (`bytes-lead` in proofs/Bytewise.antt).
+// Calls one after the other lead where `afterAll` of `arbiter` leads, behind a reset to reached states, so its laws hold of the bytes
+// (`bytes-lead`, `bytes-reached` in proofs/Bytewise.antt).
 ghost use mathlib.Core.Path.{_≡_};
 ghost use mathlib.Core.List.{_∷_};
 ghost use Prim.Native.Nat.{_≤_};
@@ -20,7 +21,7 @@ use arbiter::bytes::put_state;
 use arbiter::bytes::state_of;
 use image::Refusal;
 
-// Status: accepted, the edit is done, or the figures or finishes are given.
+// Status: accepted, the edit or the call to the arbiter is done, or the figures or finishes are given.
 pub const DONE: u64 = 0;
 
 // Status: refused.

@@ -1,10 +1,9 @@
 -- What a caller from C or Rust finds after a call: the status and each lent slice at exit, over the image's bytes, or the task table's numbers,
 -- and the slices at entry. Definitions only; the verdict is `outcome` of crate `image`, the figures and the table `answer` and `tableAfter` of
--- `figures`, the edit `change` and `imageAfter` and the preview `previewOf` and `previewTable` of `edits`, the finishes `answer` of `graph`, and the arbiter's state and
--- answer `outcome` of `arbiter`.
+-- `figures`, the edit `change` and `imageAfter` and the preview `previewOf` and `previewTable` of `edits`, the finishes `answer` of `graph`. The
+-- arbiter's calls are in specs/OnBytes.antt of `lent`.
 --
--- Statuses: 0 accepted, done or given, 1 refused, 2 the answer or the finishes have too few places, or the arbiter's state is not 51 bytes long.
--- With 2 every slice keeps its contents.
+-- Statuses: 0 accepted, done or given, 1 refused, 2 the answer or the finishes have too few places. With 2 every slice keeps its contents.
 use mathlib.Core.Path.{_≡_}
 use mathlib.Core.Bool.{cond}
 use mathlib.Core.List.{List, _∷_, _++_}

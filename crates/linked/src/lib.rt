@@ -1,7 +1,8 @@
 // linked: the ten functions that C and Rust programs link (include/slotfigures.h, wrapper/), over plain numbers and lent slices.
 //
 // They ask nothing of their caller and promise that the status and each lent slice at exit equal definitions over the image's bytes, the task
-// table's numbers or the arbiter's bytes, and the slices at entry, for what is accepted and what is refused alike (specs/Linked.antt):
+// table's numbers or the arbiter's bytes, and the slices at entry, for what is accepted and what is refused alike (specs/Linked.antt; of the
+// arbiter crates/lent/specs/OnBytes.antt):
 //   slotfigures_judge     `judgeCall`; wrong answers that it rules out: the place before the number, status 0 for a refused image
 //   slotfigures_figures   `figuresCall`; ruled out: the published figure in the tight one's place, a short answer that is written to
 //   slotfigures_edit      `editCall`; ruled out: the highest duration as the lowest, an image edited though the answer is too short

@@ -18,15 +18,15 @@ Inv-loop bytes₀ registers i₀ bytes i =
 abbrev μ-loop : tie.MeasureT-loop
 μ-loop bytes₀ registers i₀ bytes i = 16 - i
 
-put-requires : tie.Need-put-requires Inv-loop μ-loop
-put-requires c κs = omega (arith, c .before .before .pre)
+put-three-requires : tie.Need-put-three-requires Inv-loop μ-loop
+put-three-requires c κs = omega (arith, c .before .before .pre)
 
 loop-holds : tie.Need-loop-holds Inv-loop μ-loop
 unfolding flat
 loop-holds c =
     let b = c .before .before .before .before .before .before in
     let s = b .args .s in
-    let e = c .before .before .before .put .ensures in
+    let e = c .before .before .before .put-three .ensures in
     (long s _ (b .good .1 .0), omega arith, rw e (length-three (b .args .bytes .now) 0 (s .cores) (s .slot) (s .offset) ∙ b .pre), sym (append-nil _))
 
 mul-r : tie.Need-mul-r Inv-loop μ-loop
@@ -35,14 +35,14 @@ mul-r c = omega arith
 array-copy-out-r : tie.Need-array-copy-out-r Inv-loop μ-loop
 array-copy-out-r c = omega arith
 
-mul-put : tie.Need-mul-put Inv-loop μ-loop
-mul-put c = omega arith
+mul-put-three : tie.Need-mul-put-three Inv-loop μ-loop
+mul-put-three c = omega arith
 
-add-put : tie.Need-add-put Inv-loop μ-loop
-add-put c = omega arith
+add-put-three : tie.Need-add-put-three Inv-loop μ-loop
+add-put-three c = omega arith
 
-put-requires-2 : tie.Need-put-requires-2 Inv-loop μ-loop
-put-requires-2 c κs = omega (arith, c .before .before .before .loop .inv .2)
+put-three-requires-2 : tie.Need-put-three-requires-2 Inv-loop μ-loop
+put-three-requires-2 c κs = omega (arith, c .before .before .before .loop .inv .2)
 
 add-i : tie.Need-add-i Inv-loop μ-loop
 add-i c = omega arith
@@ -57,11 +57,11 @@ loop-again c =
     let b = l .loop .bytes in
     let i = l .loop .i in
     let r = getD rs i clear in
-    let e : c .before .before .put2 .last .0 ≡ three b (3 + 3 * i) (r .length) (r .flags) (r .mask) = c .before .before .put2 .ensures in (
+    let e : c .before .before .put-three2 .last .0 ≡ three b (3 + 3 * i) (r .length) (r .flags) (r .mask) = c .before .before .put-three2 .ensures in (
       l .loop .inv .0,
       omega arith,
       rw e (length-three b (3 + 3 * i) (r .length) (r .flags) (r .mask) ∙ l .loop .inv .2),
-      rw e (core-set (take 3 (l .before .before .before .before .put .last .0)) b rs i (omega (arith, l .loop .inv .0)) (omega (arith, l .loop .inv .2)) (l .loop .inv .3)),
+      rw e (core-set (take 3 (l .before .before .before .before .put-three .last .0)) b rs i (omega (arith, l .loop .inv .0)) (omega (arith, l .loop .inv .2)) (l .loop .inv .3)),
     )
 
 same-length : tie.Need-same-length Inv-loop μ-loop
@@ -72,7 +72,7 @@ returns c =
     let l = c .before in
     let b = l .before .before .before .before .before .before .before in
     let s = b .args .s in
-    let p = l .before .before .before .before .put in
+    let p = l .before .before .before .before .put-three in
     all-set s (b .args .bytes .now) (p .last .0) (l .loop .bytes) (l .loop .i) (p .ensures) (omega (arith, b .pre))
     (l .loop .inv .0) (l .loop .inv .2) (omega arith) (l .loop .inv .3)
 
@@ -82,13 +82,13 @@ put-state-spec =
     (tie.spec
     Inv-loop
     μ-loop
-    put-requires
+    put-three-requires
     loop-holds
     mul-r
     array-copy-out-r
-    mul-put
-    add-put
-    put-requires-2
+    mul-put-three
+    add-put-three
+    put-three-requires-2
     add-i
     loop-less
     loop-again

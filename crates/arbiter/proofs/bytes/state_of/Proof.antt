@@ -6,13 +6,13 @@ use lib.Seq.{take-all}
 use Prim.Native.Nat.{ℕ, suc, _+_, _-_, _*_, _≤_, _<_}
 use Rattle.arbiter.specs.declared.Registers.{Registers}
 use Rattle.arbiter.specs.Device.{clear}
-use Rattle.arbiter.specs.Bytes.{cut, stateOf}
+use Rattle.arbiter.specs.Bytes.{registersIn, stateOf}
 use Rattle.arbiter.proofs.Packing.{coreAt, cores-length, core-said, taken-set}
 use Rattle.arbiter.proofs.bytes.state_of.Statement.{statement}
 use Rattle.arbiter.proofs.bytes.state_of.Tie as tie
 
 abbrev Inv-loop : tie.InvT-loop
-Inv-loop bytes registers₀ i₀ registers i = (length registers ≡ 16) × (i ≤ 16) × (take i registers ≡ take i (cut (drop 3 bytes)))
+Inv-loop bytes registers₀ i₀ registers i = (length registers ≡ 16) × (i ≤ 16) × (take i registers ≡ take i (registersIn (drop 3 bytes)))
 
 abbrev μ-loop : tie.MeasureT-loop
 μ-loop bytes registers₀ i₀ registers i = 16 - i
@@ -59,13 +59,13 @@ loop-again c =
     let s = l .before .args .bytes .now in
     let rs = l .loop .registers in
     let i = l .loop .i in
-    let e : coreAt s (3 + 3 * i) ≡ getD (cut (drop 3 s)) i clear = sym (core-said s (l .before .pre) i (omega arith)) in
+    let e : coreAt s (3 + 3 * i) ≡ getD (registersIn (drop 3 s)) i clear = sym (core-said s (l .before .pre) i (omega arith)) in
     let r : Registers = record { length = getD s (3 + 3 * i) 0; flags = getD s (3 + 3 * i + 1) 0; mask = getD s (3 + 3 * i + 2) 0 } in
     let f : r ≡ coreAt s (3 + 3 * i) = ap₂ (λ (x y : ℕ). record { length = getD s (3 + 3 * i) 0; flags = getD s x 0; mask = getD s y 0 }) (omega arith) (omega arith) in (
       length-set rs i r ∙ l .loop .inv .0,
       omega arith,
       ap (λ (x : Registers). take (i + 1) (set rs i x)) (f ∙ e)
-          ∙ taken-set rs (cut (drop 3 s)) i (omega (arith, l .loop .inv .0)) (omega (arith, cores-length s (l .before .pre))) (l .loop .inv .2),
+          ∙ taken-set rs (registersIn (drop 3 s)) i (omega (arith, l .loop .inv .0)) (omega (arith, cores-length s (l .before .pre))) (l .loop .inv .2),
     )
 
 shared-slice-read-t20 : tie.Need-shared-slice-read-t20 Inv-loop μ-loop
@@ -82,9 +82,9 @@ unfolding stateOf
 returns c =
     let l = c .before .before .before .before in
     let s = l .before .args .bytes .now in
-    let e : l .loop .registers ≡ cut (drop 3 s) =
+    let e : l .loop .registers ≡ registersIn (drop 3 s) =
     sym (take-all (l .loop .i) (l .loop .registers) (omega (arith, l .loop .inv .0)))
-    ∙ l .loop .inv .2 ∙ take-all (l .loop .i) (cut (drop 3 s)) (omega (arith, cores-length s (l .before .pre))) in
+    ∙ l .loop .inv .2 ∙ take-all (l .loop .i) (registersIn (drop 3 s)) (omega (arith, cores-length s (l .before .pre))) in
     rw e
 
 pub state-of-spec : {M : Type 1} → statement M

@@ -22,12 +22,12 @@ registers-at-requires c κs = let a = c .before .before .args in usable-lt (a .s
 line-value-requires : tie.Need-line-value-requires
 line-value-requires c κs = search needs
 
-answer-requires : tie.Need-answer-requires
-answer-requires c κs = search needs
+tell-value-requires : tie.Need-tell-value-requires
+tell-value-requires c κs = search needs
 
 returns-2 : tie.Need-returns-2
 unfolding outcome
-returns-2 c = rw (sym (c .before .before .before .before .core-ok .ensures) ∙ not-false _ (c .before .before .before .if1 .left), sym (c .before .before .registers-at .ensures), sym (c .before .line-value .ensures)) (c .answer .ensures)
+returns-2 c = rw (sym (c .before .before .before .before .core-ok .ensures) ∙ not-false _ (c .before .before .before .if1 .left), sym (c .before .before .registers-at .ensures), sym (c .before .line-value .ensures)) (c .tell-value .ensures)
 
 pub on-line-spec : {M : Type 1} → statement M
 on-line-spec =
@@ -38,5 +38,5 @@ on-line-spec =
     returns
     registers-at-requires
     line-value-requires
-    answer-requires
+    tell-value-requires
     returns-2)

@@ -29,8 +29,8 @@ registers-at-requires c κs = let a = c .before .before .before .args in usable-
 register-value-requires : tie.Need-register-value-requires
 register-value-requires c κs = search needs
 
-answer-requires : tie.Need-answer-requires
-answer-requires c κs = search needs
+tell-value-requires : tie.Need-tell-value-requires
+tell-value-requires c κs = search needs
 
 returns-3 : tie.Need-returns-3
 unfolding outcome
@@ -42,7 +42,7 @@ returns-3 c =
       sym (c .before .before .registers-at .ensures),
       sym (c .before .register-value .ensures),
     )
-    (c .answer .ensures)
+    (c .tell-value .ensures)
 
 pub on-read-spec : {M : Type 1} → statement M
 on-read-spec =
@@ -55,5 +55,5 @@ on-read-spec =
     returns-2
     registers-at-requires
     register-value-requires
-    answer-requires
+    tell-value-requires
     returns-3)

@@ -9,17 +9,17 @@ use Rattle.image.specs.declared.Refusal.the-variants.{Busy}
 use Rattle.arbiter.specs.declared.Arbiter.{Arbiter}
 use Rattle.arbiter.specs.declared.Outcome.{Outcome}
 use Rattle.arbiter.specs.declared.Registers.{Registers}
-use Rattle.arbiter.specs.Device.{busy, registersOf, put}
+use Rattle.arbiter.specs.Device.{busy, registersOf, withRegisters}
 use Rattle.arbiter.specs.Calls.{refuse, leave, written}
 use Rattle.arbiter.proofs.calls.store.Statement.{statement}
 use Rattle.arbiter.proofs.calls.store.Tie as tie
 
 module _ (p n v : ℕ) (a : Arbiter) (r : Registers) (is : r ≡ registersOf a p) where
   abbrev length-put : Arbiter
-  length-put = put a p (record { length = v; flags = 1; mask = r .mask })
+  length-put = withRegisters a p (record { length = v; flags = 1; mask = r .mask })
 
   abbrev mask-put : Arbiter
-  mask-put = put a p (record { length = r .length; flags = r .flags; mask = v })
+  mask-put = withRegisters a p (record { length = r .length; flags = r .flags; mask = v })
 
   -- the definition, its two tests and the core's registers at hand
   cases : (t u : Bool) → eqb n 0 ≡ t → busy r ≡ u → written p n v a ≡ cond t (cond u (refuse Busy a) (leave length-put)) (leave mask-put)
@@ -38,6 +38,9 @@ module _ (p n v : ℕ) (a : Arbiter) (r : Registers) (is : r ≡ registersOf a p
 registers-at-requires : tie.Need-registers-at-requires
 registers-at-requires c κs = search needs
 
+with-registers-requires : tie.Need-with-registers-requires
+with-registers-requires c κs = search needs
+
 is-busy-requires : tie.Need-is-busy-requires
 is-busy-requires c κs = search needs
 
@@ -46,23 +49,22 @@ refuse-requires c κs = search needs
 
 returns : tie.Need-returns
 returns c =
-    let a = c .before .before .before .before .before .args in
-    let r = c .before .before .before .before .registers-at in
+    let l = c .before .before .before .before in
+    let a = l .before .before .args in
+    let r = l .before .registers-at in
     c .refuse .ensures
-    ∙ sym (while-busy (a .core) (a .register) (a .value) (a .s) (r .result) (r .ensures) (c .before .before .before .if1 .taken) (sym (c .before .before .is-busy .ensures) ∙ c .before .if2 .taken))
-
-with-registers-requires : tie.Need-with-registers-requires
-with-registers-requires c κs = search needs
+    ∙ sym (while-busy (a .core) (a .register) (a .value) (a .s) (r .result) (r .ensures) (l .if1 .taken) (sym (c .before .before .is-busy .ensures) ∙ c .before .if2 .taken))
 
 accept-requires : tie.Need-accept-requires
 accept-requires c κs = search needs
 
 returns-2 : tie.Need-returns-2
 returns-2 c =
-    let a = c .before .before .before .before .before .before .args in
-    let r = c .before .before .before .before .before .registers-at in
-    c .accept .ensures ∙ ap leave (c .before .with-registers .ensures)
-    ∙ sym (else-length (a .core) (a .register) (a .value) (a .s) (r .result) (r .ensures) (c .before .before .before .before .if1 .taken) (sym (c .before .before .before .is-busy .ensures) ∙ c .before .before .if2 .left))
+    let l = c .before .before .before .before in
+    let a = l .before .before .args in
+    let r = l .before .registers-at in
+    c .accept .ensures ∙ ap leave (c .before .before .before .with-registers .ensures)
+    ∙ sym (else-length (a .core) (a .register) (a .value) (a .s) (r .result) (r .ensures) (l .if1 .taken) (sym (c .before .before .is-busy .ensures) ∙ c .before .if2 .left))
 
 with-registers-requires-2 : tie.Need-with-registers-requires-2
 with-registers-requires-2 c κs = search needs
@@ -82,10 +84,10 @@ store-spec =
     tie.close
     (tie.spec
     registers-at-requires
+    with-registers-requires
     is-busy-requires
     refuse-requires
     returns
-    with-registers-requires
     accept-requires
     returns-2
     with-registers-requires-2

@@ -7,7 +7,7 @@ use borrow.Author.Tests.{le-leb, lt-leb, eq-eqb, ne-eqb}
 use Prim.Native.Nat.{ℕ, _*_, _≤_}
 use Rattle.bus.specs.declared.Bus.{Bus}
 use Rattle.runs.specs.Slots.{inSlot}
-use Rattle.arbiter.specs.Device.{starts}
+use Rattle.arbiter.specs.Device.{startsNow}
 use Rattle.arbiter.specs.Steps.{Small}
 use Rattle.arbiter.proofs.ticks.starting.Statement.{statement}
 use Rattle.arbiter.proofs.ticks.starting.Tie as tie
@@ -16,7 +16,7 @@ first-most : (b : Bus) (offset : ℕ) → Small b offset → b .core * b .slot �
 first-most b offset t = let h : b .core ≤ 16 = omega (arith, t .core-lt) in mul-le-mul h (t .slot-most)
 
 returns : tie.Need-returns
-unfolding starts
+unfolding startsNow
 returns c = let a = c .before .before .args in rw (ne-eqb (a .r .flags) 1 (c .if1 .taken))
 
 cast-length : tie.Need-cast-length
@@ -26,7 +26,7 @@ mul-first : tie.Need-mul-first
 mul-first c = let s = c .before .before .before .before in omega (arith, first-most (s .args .b) (s .args .offset) (s .pre))
 
 returns-2 : tie.Need-returns-2
-unfolding starts inSlot
+unfolding startsNow inSlot
 returns-2 c =
     let a = c .before .before .before .before .before .args in
     rw (eq-eqb (a .r .flags) 1 (c .before .before .before .if1 .left), lt-leb (a .b .core * a .b .slot) (a .offset) (c .if2 .taken))
@@ -40,7 +40,7 @@ add-result-2 c =
     omega (arith, first-most (s .args .b) (s .args .offset) (s .pre), s .pre .slot-most)
 
 returns-3 : tie.Need-returns-3
-unfolding starts inSlot
+unfolding startsNow inSlot
 returns-3 c =
     let a = c .before .before .before .before .before .before .args in
     rw (eq-eqb (a .r .flags) 1 (c .before .before .before .before .if1 .left), le-leb (a .b .core * a .b .slot) (a .offset) (c .before .if2 .left)) refl

@@ -4,11 +4,11 @@ use borrow.Author.Needs.{needs}
 use borrow.Author.Tests.{eq-eqb, ne-eqb}
 use Prim.Native.Nat.{ℕ}
 use Rattle.arbiter.specs.declared.Registers.{Registers}
-use Rattle.arbiter.specs.Device.{run, fallen}
+use Rattle.arbiter.specs.Device.{countDown, fallen}
 use Rattle.arbiter.proofs.ticks.step.Statement.{statement}
 use Rattle.arbiter.proofs.ticks.step.Tie as tie
 
-runs : (t : Registers) → t .flags ≡ 2 → run t ≡ fallen t
+runs : (t : Registers) → t .flags ≡ 2 → countDown t ≡ fallen t
 unfolding fallen
 runs t e = rw (eq-eqb (t .flags) 2 e)
 
@@ -19,13 +19,13 @@ stays t n = rw (ne-eqb (t .flags) 2 n)
 turn-requires : tie.Need-turn-requires
 turn-requires c κs = search needs
 
-run-on-requires : tie.Need-run-on-requires
-run-on-requires c κs = search needs
+count-down-requires : tie.Need-count-down-requires
+count-down-requires c κs = search needs
 
 returns : tie.Need-returns
 returns c =
     let t = c .before .before .before .turn in
-    c .run-on .ensures ∙ runs (t .result) (c .before .if1 .taken) ∙ ap fallen (t .ensures)
+    c .count-down .ensures ∙ runs (t .result) (c .before .if1 .taken) ∙ ap fallen (t .ensures)
 
 returns-2 : tie.Need-returns-2
 returns-2 c =
@@ -33,4 +33,4 @@ returns-2 c =
     stays (t .result) (c .if1 .left) ∙ ap fallen (t .ensures)
 
 pub step-spec : {M : Type 1} → statement M
-step-spec = tie.close (tie.spec turn-requires run-on-requires returns returns-2)
+step-spec = tie.close (tie.spec turn-requires count-down-requires returns returns-2)

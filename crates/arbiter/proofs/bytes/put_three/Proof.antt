@@ -1,8 +1,8 @@
 use native.Mathlib.Omega.{arith}
 use borrow.Author.Needs.{needs}
 use lib.ListN.{length-set}
-use Rattle.arbiter.proofs.bytes.put.Statement.{statement}
-use Rattle.arbiter.proofs.bytes.put.Tie as tie
+use Rattle.arbiter.proofs.bytes.put_three.Statement.{statement}
+use Rattle.arbiter.proofs.bytes.put_three.Tie as tie
 
 slice-write-bytes : tie.Need-slice-write-bytes
 slice-write-bytes c = omega arith
@@ -25,7 +25,7 @@ same-length c = search needs
 returns : tie.Need-returns
 returns c = search needs
 
-pub put-spec : {M : Type 1} → statement M
-put-spec =
+pub put-three-spec : {M : Type 1} → statement M
+put-three-spec =
     tie.close
     (tie.spec slice-write-bytes add-bytes slice-write-bytes-2 add-bytes-2 slice-write-bytes-3 same-length returns)
