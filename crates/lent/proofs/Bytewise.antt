@@ -66,7 +66,7 @@ module _ (c : Call) (s lent : List ℕ) (status : ℕ) (exit found : List ℕ) (
   module _ (h : Lends s lent) where
     there : arbiterInto (outcome c (stateOf s)) lent ≡ (status, exit, found)
     unfolding arbiterCall room
-    there = rw (le-leb 2 (length lent) (h .1), eq-eqb (length s) 51 (h .0)) at is
+    there = rw (le-leb 2 (length lent) (omega (arith, h .1)), eq-eqb (length s) 51 (h .0)) at is
 
     leads : exit ≡ bytesOf (after c (stateOf s))
     leads = sym (ap (λ (y : ℕ × List ℕ × List ℕ). y .1) there)

@@ -1,3 +1,4 @@
+use native.Mathlib.Omega.{arith}
 use borrow.Author.Tests.{eq-eqb, ne-eqb}
 use Rattle.arbiter.specs.Device.{lineOf}
 use Rattle.arbiter.proofs.calls.line_value.Statement.{statement}
@@ -5,7 +6,7 @@ use Rattle.arbiter.proofs.calls.line_value.Tie as tie
 
 returns : tie.Need-returns
 unfolding lineOf
-returns c = let r = c .before .before .before .before .args .r in rw (eq-eqb (r .flags) 4 (c .before .before .if1 .taken), eq-eqb (r .mask) 1 (c .if2 .taken))
+returns c = let r = c .before .before .before .before .args .r in rw (eq-eqb (r .flags) 4 (c .before .before .if1 .taken), eq-eqb (r .mask) 1 (omega (arith, c .if2 .taken)))
 
 returns-2 : tie.Need-returns-2
 unfolding lineOf

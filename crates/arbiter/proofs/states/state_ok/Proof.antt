@@ -30,7 +30,7 @@ cast-if2 c = search needs
 returns-2 : tie.Need-returns-2
 returns-2 c =
     let s = c .before .before .before .before .before .before .args .s in
-    sym (offset-bad s (sym (c .before .before .before .bus-ok .ensures) ∙ not-false _ (c .before .before .if1 .left)) (c .if2 .taken))
+    sym (offset-bad s (sym (c .before .before .before .bus-ok .ensures) ∙ not-false _ (c .before .before .if1 .left)) (omega (arith, c .if2 .taken)))
 
 all-ok-requires : tie.Need-all-ok-requires
 all-ok-requires c κs = search needs
@@ -39,7 +39,7 @@ returns-3 : tie.Need-returns-3
 returns-3 c =
     let b = c .before .before .before in
     let s = b .before .before .before .before .args .s in
-    c .all-ok .ensures ∙ sym (formed-fit s (sym (b .before .bus-ok .ensures) ∙ not-false _ (b .if1 .left)) (c .before .if2 .left))
+    c .all-ok .ensures ∙ sym (formed-fit s (sym (b .before .bus-ok .ensures) ∙ not-false _ (b .if1 .left)) (omega (arith, c .before .if2 .left)))
 
 pub state-ok-spec : {M : Type 1} → statement M
 state-ok-spec =
