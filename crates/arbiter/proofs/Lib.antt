@@ -3,7 +3,6 @@ pub mod Formed
 pub mod Long
 pub mod Sweeps
 pub mod Steps
-pub mod Packing
 pub mod Reasons
 pub mod Kept
 pub mod Apart

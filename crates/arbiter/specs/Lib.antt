@@ -3,5 +3,4 @@ pub mod Calls
 pub mod Conditions
 pub mod Sequences
 pub mod Promise
-pub mod Bytes
 pub mod Steps

@@ -12,7 +12,7 @@
 // (`one-running` in proofs/Reach.antt); cores and slot are the reset's, and the offset is the number of ticks since it modulo P
 // (`since-reset` in proofs/Timing.antt). From any state: other cores never alter a core's registers or line (`undisturbed` in proofs/Apart.antt).
 //
-// src/: states (what a state may hold), ticks, calls (each entry's call with the state by value), bytes (the state as 51 bytes).
+// src/: states (what a state may hold), ticks, calls (each entry's call with the state by value).
 ghost use Rattle.arbiter.specs.declared.Call.the-variants.{Read, Line, Write, Tick, Reset};
 ghost use Rattle.arbiter.specs.Promise.{Answers};
 use crate::calls::on_line;
@@ -22,7 +22,6 @@ use crate::calls::on_tick;
 use crate::calls::on_write;
 use image::Refusal;
 
-pub mod bytes;
 pub mod calls;
 mod states;
 mod ticks;

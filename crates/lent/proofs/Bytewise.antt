@@ -19,9 +19,9 @@ use Rattle.arbiter.specs.declared.Call.the-variants.{Reset}
 use Rattle.arbiter.proofs.Reach.{reached-all}
 use Rattle.runs.proofs.Cases.{either}
 use Rattle.arbiter.proofs.Kept.{sixteen}
-use Rattle.arbiter.proofs.Packing.{state-again, there-and-back, bytes-length, cores-length}
+use Rattle.lent.proofs.Packing.{state-again, there-and-back, bytes-length, cores-length}
 use Rattle.arbiter.proofs.Reasons.{promised}
-use Rattle.arbiter.specs.Bytes.{bytesOf, stateOf}
+use Rattle.lent.specs.Bytes.{bytesOf, stateOf}
 use Rattle.arbiter.specs.declared.Arbiter.{Arbiter}
 use Rattle.arbiter.specs.declared.Outcome.{Outcome}
 use Rattle.arbiter.specs.declared.Reply.{Reply}

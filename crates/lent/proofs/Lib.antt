@@ -1,2 +1,3 @@
 pub mod Putting
+pub mod Packing
 pub mod Bytewise

@@ -13,13 +13,13 @@ use Rattle.image.specs.declared.Refusal.{Refusal}
 use Rattle.arbiter.specs.declared.Call.{Call}
 use Rattle.arbiter.specs.Calls.{outcome, after, answer}
 use Rattle.arbiter.specs.Conditions.{RefusedFor}
-use Rattle.arbiter.specs.Bytes.{bytesOf, stateOf}
+use Rattle.lent.specs.Bytes.{bytesOf, stateOf}
 use Rattle.arbiter.specs.declared.Outcome.{Outcome}
 use Rattle.arbiter.specs.declared.Reply.{Reply}
 use Rattle.arbiter.specs.declared.Reply.the-variants.{Accepted, Value, Refused}
 use Rattle.lent.specs.Answers.{doneInto, refusedInto, beside}
 
--- "the answer 0 and the value read (0 where nothing is read)", or the number and the place
+-- 0 and the value read, or 0 where nothing is read; or the number and the place
 abbrev pub repliedInto : Reply → List ℕ → ℕ × List ℕ
 repliedInto Accepted lent = doneInto lent
 repliedInto (Value v) lent = (0, 0 ∷ v ∷ drop 2 lent)

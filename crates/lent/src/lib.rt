@@ -1,10 +1,11 @@
 // lent: what the library's functions do with what C and Rust programs lend: the first places of an answer are set, and a call to the arbiter is
 // made on the bytes of its state.
 //
-// `put`, `done` and `refuse` set an answer's first two places, the latter two with the status (specs/Answers.antt). `call` asks nothing of its caller: the
-// status, the bytes and the answer at exit equal `arbiterCall` (specs/OnBytes.antt), which is `outcome` of crate `arbiter` over the bytes, for
-// every call, refused ones too, and every length of both slices. Wrong answers that it rules out: a state of 50 bytes that is taken, a place
-// that is told before its number, an answer of one place that is written to.
+// `put`, `done` and `refuse` set an answer's first two places, the latter two with the status (specs/Answers.antt). `call` asks nothing of its
+// caller: the status, the bytes and the answer at exit equal `arbiterCall` (specs/OnBytes.antt), which is `outcome` of crate `arbiter` over the
+// bytes, for every call, refused ones too, and every length of both slices; and `WholeCall` says of what the caller finds when it is refused and
+// when done. Wrong answers that it rules out: a state of 50 bytes that is taken, a place that is told before its number, an answer of one place
+// that is written to.
 // Calls one after the other lead where `afterAll` of `arbiter` leads, behind a reset to reached states, so its laws hold of the bytes
 // (`bytes-lead`, `bytes-reached` in proofs/Bytewise.antt).
 ghost use mathlib.Core.Path.{_≡_};
@@ -14,12 +15,15 @@ ghost use lib.ListN.{length, drop};
 ghost use Rattle.image.specs.Judged.{numberOf};
 ghost use Rattle.lent.specs.Answers.{doneInto, refusedInto};
 ghost use Rattle.lent.specs.OnBytes.{room, repliedInto, arbiterInto, arbiterCall, WholeCall};
+use crate::bytes::BYTES;
+use crate::bytes::put_state;
+use crate::bytes::state_of;
 use arbiter::Call;
 use arbiter::Outcome;
 use arbiter::Reply;
-use arbiter::bytes::put_state;
-use arbiter::bytes::state_of;
 use image::Refusal;
+
+mod bytes;
 
 // Status: accepted, the edit or the call to the arbiter is done, or the figures or finishes are given.
 pub const DONE: u64 = 0;
@@ -65,7 +69,7 @@ fn has_room(state: &[u8], answer: &[u64]) -> bool
     if answer.len() < 2 {
         return false;
     }
-    state.len() == arbiter::bytes::BYTES
+    state.len() == BYTES
 }
 
 // What a call to the arbiter answers: 0 and the value read, 0 where none is, or the number and the place.

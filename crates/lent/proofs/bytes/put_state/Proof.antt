@@ -4,12 +4,12 @@ use mathlib.Core.List.{_++_, append-nil}
 use native.Mathlib.Omega.{arith}
 use lib.ListN.{length, getD, take}
 use Prim.Native.Nat.{_+_, _-_, _*_, _≤_, _<_}
 use Rattle.arbiter.specs.Device.{clear}
-use Rattle.arbiter.specs.Bytes.{flat}
+use Rattle.lent.specs.Bytes.{flat}
 use Rattle.arbiter.proofs.Long.{long}
-use Rattle.arbiter.proofs.Packing.{three, length-three, core-set, all-set}
-use Rattle.arbiter.proofs.bytes.put_state.Statement.{statement}
-use Rattle.arbiter.proofs.bytes.put_state.Tie as tie
+use Rattle.lent.proofs.Packing.{three, length-three, core-set, all-set}
+use Rattle.lent.proofs.bytes.put_state.Statement.{statement}
+use Rattle.lent.proofs.bytes.put_state.Tie as tie
 
 abbrev Inv-loop : tie.InvT-loop
 Inv-loop bytes₀ registers i₀ bytes i =

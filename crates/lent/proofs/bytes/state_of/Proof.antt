@@ -4,12 +4,12 @@ use native.Mathlib.Omega.{arith}
 use lib.ListN.{length, getD, set, take, drop, length-set, length-replicate}
 use lib.Seq.{take-all}
 use Prim.Native.Nat.{ℕ, suc, _+_, _-_, _*_, _≤_, _<_}
 use Rattle.arbiter.specs.declared.Registers.{Registers}
 use Rattle.arbiter.specs.Device.{clear}
-use Rattle.arbiter.specs.Bytes.{registersIn, stateOf}
-use Rattle.arbiter.proofs.Packing.{coreAt, cores-length, core-said, taken-set}
-use Rattle.arbiter.proofs.bytes.state_of.Statement.{statement}
-use Rattle.arbiter.proofs.bytes.state_of.Tie as tie
+use Rattle.lent.specs.Bytes.{registersIn, stateOf}
+use Rattle.lent.proofs.Packing.{coreAt, cores-length, core-said, taken-set}
+use Rattle.lent.proofs.bytes.state_of.Statement.{statement}
+use Rattle.lent.proofs.bytes.state_of.Tie as tie
 
 abbrev Inv-loop : tie.InvT-loop
 Inv-loop bytes registers₀ i₀ registers i = (length registers ≡ 16) × (i ≤ 16) × (take i registers ≡ take i (registersIn (drop 3 bytes)))

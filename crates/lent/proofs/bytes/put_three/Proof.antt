@@ -1,8 +1,8 @@
 use native.Mathlib.Omega.{arith}
 use borrow.Author.Needs.{needs}
 use lib.ListN.{length-set}
-use Rattle.arbiter.proofs.bytes.put_three.Statement.{statement}
-use Rattle.arbiter.proofs.bytes.put_three.Tie as tie
+use Rattle.lent.proofs.bytes.put_three.Statement.{statement}
+use Rattle.lent.proofs.bytes.put_three.Tie as tie
 
 slice-write-bytes : tie.Need-slice-write-bytes
 slice-write-bytes c = omega arith
