@@ -25,20 +25,20 @@ pub record Same (p : ℕ) (a b : Arbiter) : Type 0 where
   pub frame : frameOf a ≡ frameOf b
   pub registers-same : registersOf a p ≡ registersOf b p
 
-same-refl : (p : ℕ) (a : Arbiter) → Same p a a
+pub same-refl : (p : ℕ) (a : Arbiter) → Same p a a
 same-refl p a = record { frame = refl; registers-same = refl }
 
-same-trans : {p : ℕ} {a b c : Arbiter} → Same p a b → Same p b c → Same p a c
+pub same-trans : {p : ℕ} {a b c : Arbiter} → Same p a b → Same p b c → Same p a c
 same-trans s t = record { frame = s .frame ∙ t .frame; registers-same = s .registers-same ∙ t .registers-same }
 
-same-sym : {p : ℕ} {a b : Arbiter} → Same p a b → Same p b a
+pub same-sym : {p : ℕ} {a b : Arbiter} → Same p a b → Same p b a
 same-sym s = record { frame = sym (s .frame); registers-same = sym (s .registers-same) }
 
-same-path : {p : ℕ} {a b : Arbiter} → a ≡ b → Same p a b
+pub same-path : {p : ℕ} {a b : Arbiter} → a ≡ b → Same p a b
 same-path {p} {a} {b} e = subst (λ (c : Arbiter). Same p a c) e (same-refl p a)
 
 -- a call that is not core p's own write, no tick and no reset
-other : (p : ℕ) (c : Call) (a : Arbiter) → concerns p c ≡ false → Same p (after c a) a
+pub other : (p : ℕ) (c : Call) (a : Arbiter) → concerns p c ≡ false → Same p (after c a) a
 other p (Read q n) a e = same-path (read-leaves q n a)
 other p (Line q) a e = same-path (line-leaves q a)
 other p (Write q n v) a e =
@@ -61,6 +61,9 @@ usable-same : {p : ℕ} {a b : Arbiter} → Same p a b → usable a p ≡ usable
 unfolding usable
 usable-same {p} {a} {b} s = ap (λ (f : Frame). f .in-range && ltb p (f .cores)) (s .frame)
 
+takes-same : (p n v : ℕ) {a b : Arbiter} → Same p a b → usable a p && writable (a .slot) n v ≡ usable b p && writable (b .slot) n v
+takes-same p n v s = ap₂ (λ (t : Bool) (l : ℕ). t && writable l n v) (usable-same s) (ap (λ (f : Frame). f .slot) (s .frame))
+
 written-same : (p n v : ℕ) (a b : Arbiter) → Same p a b → registersOf (written p n v a .state) p ≡ registersOf (written p n v b .state) p
 unfolding written
 written-same p n v a b s =
@@ -73,8 +76,7 @@ written-same p n v a b s =
 write-registers : (p n v : ℕ) (a b : Arbiter) → Same p a b → registersOf (after (Write p n v) a) p ≡ registersOf (after (Write p n v) b) p
 unfolding outcome
 write-registers p n v a b s =
-    cond-both (λ (x y : Outcome). registersOf (x .state) p ≡ registersOf (y .state) p) (ap₂ (λ (t : Bool) (l : ℕ). t && writable l n v) (usable-same s) (ap (λ (f : Frame). f .slot) (s .frame)))
-    (written-same p n v a b s) (s .registers-same)
+    cond-both (λ (x y : Outcome). registersOf (x .state) p ≡ registersOf (y .state) p) (takes-same p n v s) (written-same p n v a b s) (s .registers-same)
 
 ticked-frame : (a b : Arbiter) → frameOf a ≡ frameOf b → formed a ≡ true → formed b ≡ true → frameOf (ticked a) ≡ frameOf (ticked b)
 unfolding ticked
@@ -133,14 +135,25 @@ apart p a cs ds e =
     same-trans (reduced p cs a a (same-refl p a))
     (subst (λ (es : List Call). Same p (afterAll es a) (afterAll ds a)) (sym e) (same-sym (reduced p ds a a (same-refl p a))))
 
-read-same : (p n : ℕ) (a b : Arbiter) → Same p a b → answer (Read p n) a ≡ answer (Read p n) b
+pub read-same : (p n : ℕ) (a b : Arbiter) → Same p a b → answer (Read p n) a ≡ answer (Read p n) b
 unfolding outcome
 read-same p n a b s =
     cond-both (λ (x y : Outcome). x .reply ≡ y .reply) (ap (λ (t : Bool). t && ltb n 3) (usable-same s)) (ap (λ (r : Registers). Value (registerAt n r)) (s .registers-same)) refl
 
-line-same : (p : ℕ) (a b : Arbiter) → Same p a b → answer (Line p) a ≡ answer (Line p) b
+pub line-same : (p : ℕ) (a b : Arbiter) → Same p a b → answer (Line p) a ≡ answer (Line p) b
 unfolding outcome
 line-same p a b s = cond-both (λ (x y : Outcome). x .reply ≡ y .reply) (usable-same s) (ap (λ (r : Registers). Value (lineOf r)) (s .registers-same)) refl
+
+written-same-reply : (p n v : ℕ) (a b : Arbiter) → Same p a b → written p n v a .reply ≡ written p n v b .reply
+unfolding written
+written-same-reply p n v a b s =
+    either (eqb n 0)
+    (λ z. rw (z, s .registers-same) (either (busy (registersOf b p)) (λ t. rw t refl) (λ t. rw t refl)))
+    (λ z. rw z refl)
+
+pub write-same : (p n v : ℕ) (a b : Arbiter) → Same p a b → answer (Write p n v) a ≡ answer (Write p n v) b
+unfolding outcome
+write-same p n v a b s = cond-both (λ (x y : Outcome). x .reply ≡ y .reply) (takes-same p n v s) (written-same-reply p n v a b s) refl
 
 pub alike : (p : ℕ) (a b : Arbiter) → Same p a b → Alike p a b
 alike p a b s = record { registers = s .registers-same; reads = λ n. read-same p n a b s; line-reads = line-same p a b s }

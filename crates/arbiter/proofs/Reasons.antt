@@ -17,7 +17,6 @@ use Rattle.arbiter.specs.declared.Call.{Call}
 use Rattle.arbiter.specs.declared.Call.the-variants.{Read, Line, Write, Tick, Reset}
 use Rattle.arbiter.specs.Calls.{outcome, written, tell, leave, refuse, after, answer}
 use Rattle.arbiter.specs.Conditions.{Misnamed, read-core, read-register, line-core, write-core, write-register, write-flags, no-length, length-above, mask-above, reset-size, AsksState, RefusedFor, misnamed, malformed, still-busy}
-use Rattle.arbiter.specs.Promise.{Answers}
 use Rattle.arbiter.proofs.Tests.{and-left, and-right, and-both, cond-of}
 use Rattle.arbiter.proofs.Formed.{sized-true, true-sized, well-formed, formed-well, busy-true, true-busy, usable-formed, usable-core}
 
@@ -190,11 +189,8 @@ whenever c a o (busy-still x) r (malformed asks n) = absurd (not-both c a (malfo
 whenever c a o (busy-still x) r (still-busy w m i) = refl
 whenever c a o (answered n t) r x = absurd (n r x)
 
--- what an entry promises, of the outcome that its call has
-pub promised : (c : Call) (a : Arbiter) (o : Outcome) → o ≡ outcome c a → Answers c a (o .state) (o .reply)
-promised c a o e = record {
-  answers = ap (λ (u : Outcome). u .reply) e;
-  leaves = ap (λ (u : Outcome). u .state) e;
-  because = because c a o (subst (Judged c a) (sym e) (judged c a));
-  whenever = whenever c a o (subst (Judged c a) (sym e) (judged c a));
-}
+pub refused-because : (c : Call) (a : Arbiter) (r : Refusal) (place : ℕ) → answer c a ≡ Refused r place → RefusedFor a c r × (place ≡ 0) × (after c a ≡ a)
+refused-because c a = because c a (outcome c a) (judged c a)
+
+pub refused-whenever : (c : Call) (a : Arbiter) (r : Refusal) → RefusedFor a c r → answer c a ≡ Refused r 0
+refused-whenever c a = whenever c a (outcome c a) (judged c a)

@@ -16,7 +16,7 @@ use crate::states::with_registers;
 use crate::ticks::ticked_state;
 use image::Refusal;
 
-fn refuse(r: Refusal, s: Arbiter) -> Outcome
+pub fn refuse(r: Refusal, s: Arbiter) -> Outcome
     ensures { λ o. ⌜ o ≡ Rattle.arbiter.specs.Calls.refuse r s ⌝ }
 {
     Outcome {

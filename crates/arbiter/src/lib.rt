@@ -1,28 +1,29 @@
-// arbiter: the bus arbiter as a device with registers (document 02, "The arbiter as a device"). Its owner lends the state, and each entry alters
-// it there.
+// arbiter: the bus arbiter as a device with registers (document 02, "The arbiter as a device" and "Who may touch the arbiter"). Its owner lends
+// the state, and a call alters it there.
 //
-// The five entries ask nothing of their caller and promise `Answers` of specs/Promise.antt for every state and every number: the answer and the
-// state at exit are those that `outcome` (specs/Calls.antt, over specs/Device.antt) names for the call, refused calls too; and the call is
-// refused, with 15 or 16 and place 0, if and only if the condition for it holds (specs/Conditions.antt), and then the state is as it was.
-// Wrong answers that this rules out: an access that starts where its slot does not hold it whole, a first cycle that is not counted, done that
-// is kept when a length is written, 16 for a call that 15 refuses, an unused core's registers that are not looked at.
+// The entry `ask` has no `requires`, and promises `Answers` of specs/Promise.antt for every state, caller, call and number: the answer and
+// the state at exit are those that `outcomeBy` (specs/Callers.antt, over `outcome` of specs/Calls.antt and specs/Device.antt) names, refused calls
+// too; and the call is refused, with 15, 16 or 17 and place 0, if and only if the condition for it holds (`RefusedBy` of specs/Conditions.antt),
+// and then the state is as it was.
+// Wrong answers that this rules out: a write by the workshop, a tick by a core, a neighbour's line that is told, 15 for a call that 17 refuses;
+// an access that starts where its slot does not hold it whole, a first cycle that is not counted, done that is kept when a length is written, 16
+// for a call that 15 refuses, an unused core's registers that are not looked at.
 //
 // Of calls one after the other (specs/Sequences.antt), in states reached from a reset: a length is done after Equation 7's wait and its own
 // cycles and no sooner, which are the cycles of an access of a run (`on-time`, `as-the-clock` in proofs/Timing.antt); no two cores are running
 // (`one-running` in proofs/Reach.antt); cores and slot are the reset's, and the offset is the number of ticks since it modulo P
 // (`since-reset` in proofs/Timing.antt). From any state: other cores never alter a core's registers or line (`undisturbed` in proofs/Apart.antt).
+// With callers (specs/Callers.antt): calls lead where those among them lead that their callers have the right to, so all this holds of them
+// (`permitted-lead`, `reached-by` in proofs/Rights.antt); from one reset on, what a core is answered goes by its own calls and the workshop's ticks
+// and resets alone (`same-answers` in proofs/Unseen.antt).
 //
-// src/: states (what a state may hold), ticks, calls (each entry's call with the state by value).
-ghost use Rattle.arbiter.specs.declared.Call.the-variants.{Read, Line, Write, Tick, Reset};
+// src/: states (what a state may hold), ticks, calls (each call with the state by value), callers (who may make it).
 ghost use Rattle.arbiter.specs.Promise.{Answers};
-use crate::calls::on_line;
-use crate::calls::on_read;
-use crate::calls::on_reset;
-use crate::calls::on_tick;
-use crate::calls::on_write;
+use crate::callers::asked;
 use image::Refusal;
 
-pub mod calls;
+pub mod callers;
+mod calls;
 mod states;
 mod ticks;
 
@@ -66,47 +67,11 @@ pub struct Outcome {
     pub reply: Reply,
 }
 
-// A core's register.
-pub fn read(a: &mut Arbiter, core: usize, register: usize) -> Reply
-    ensures { λ r. ⌜ Answers (Read core register) (now (a .entry)) (now (a .exit)) r ⌝ }
+// A caller's call: a core's number or 16 for the workshop, and what it asks.
+pub fn ask(a: &mut Arbiter, caller: usize, c: Call) -> Reply
+    ensures { λ r. ⌜ Answers caller c (now (a .entry)) (now (a .exit)) r ⌝ }
 {
-    let o = on_read(*a, core, register);
-    *a = o.state;
-    o.reply
-}
-
-// A core's interrupt line.
-pub fn line(a: &mut Arbiter, core: usize) -> Reply
-    ensures { λ r. ⌜ Answers (Line core) (now (a .entry)) (now (a .exit)) r ⌝ }
-{
-    let o = on_line(*a, core);
-    *a = o.state;
-    o.reply
-}
-
-// A value to a core's register.
-pub fn write(a: &mut Arbiter, core: usize, register: usize, value: usize) -> Reply
-    ensures { λ r. ⌜ Answers (Write core register value) (now (a .entry)) (now (a .exit)) r ⌝ }
-{
-    let o = on_write(*a, core, register, value);
-    *a = o.state;
-    o.reply
-}
-
-// One cycle of the bus.
-pub fn tick(a: &mut Arbiter) -> Reply
-    ensures { λ r. ⌜ Answers Tick (now (a .entry)) (now (a .exit)) r ⌝ }
-{
-    let o = on_tick(*a);
-    *a = o.state;
-    o.reply
-}
-
-// A bus of this many cores and this slot length, with all registers and the offset clear.
-pub fn reset(a: &mut Arbiter, cores: usize, slot: usize) -> Reply
-    ensures { λ r. ⌜ Answers (Reset cores slot) (now (a .entry)) (now (a .exit)) r ⌝ }
-{
-    let o = on_reset(*a, cores, slot);
+    let o = asked(*a, caller, c);
     *a = o.state;
     o.reply
 }

@@ -11,7 +11,7 @@ use Rattle.image.specs.Bytes.{wordAt}
 use Rattle.image.specs.Fields.{fieldOf, busOf}
 use Rattle.image.specs.Nodes.{treeAt, taskOf}
 use Rattle.image.specs.declared.Refusal.{Refusal}
-use Rattle.image.specs.declared.Refusal.the-variants.{Cut, Tag, Full, Length, Value, Forward, Unfinished, Deep, Long, Table, Register, Busy, Block}
+use Rattle.image.specs.declared.Refusal.the-variants.{Cut, Tag, Full, Length, Value, Forward, Unfinished, Deep, Long, Table, Register, Busy, Forbidden, Block}
 use Rattle.image.specs.declared.fields.Judgement.{Judgement}
 use Rattle.image.specs.declared.fields.Judgement.the-variants.{Good, Bad}
 use Rattle.image.specs.declared.fields.End.{End}
@@ -19,7 +19,7 @@ use Rattle.image.specs.declared.fields.End.the-variants.{Stopped, Whole}
 use Rattle.image.specs.declared.Verdict.{Verdict}
 use Rattle.image.specs.declared.Verdict.the-variants.{Accepted, Refused}
 
--- "Number"; 19 is one of the new numbers of document 02
+-- "Number"; those above 10 are new numbers of document 02
 abbrev pub numberOf : Refusal → ℕ
 numberOf Cut = 1
 numberOf Tag = 2
@@ -33,6 +33,7 @@ numberOf Long = 9
 numberOf Table = 10
 numberOf Register = 15
 numberOf Busy = 16
+numberOf Forbidden = 17
 numberOf Block = 19
 
 -- "Word"
@@ -49,6 +50,7 @@ wordOf Long = "long"
 wordOf Table = "table"
 wordOf Register = "register"
 wordOf Busy = "busy"
+wordOf Forbidden = "forbidden"
 wordOf Block = "block"
 
 abbrev pub pickEnd : Bool → End → End → End

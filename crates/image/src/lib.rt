@@ -27,7 +27,7 @@ pub mod rows;
 mod weigh;
 
 // Why a caller gets no answer: the words of the papers' tables but 21, in one list. Judging answers the first nine; `Table` is for a caller that lends
-// a table, and of document 02 `Register` and `Busy` for calls to the arbiter (15, 16), `Block` for one that edits a block (19).
+// a table, and of document 02 `Register`, `Busy` and `Forbidden` for calls to the arbiter (15 to 17), `Block` for one that edits a block (19).
 pub enum Refusal {
     Cut,
     Tag,
@@ -41,6 +41,7 @@ pub enum Refusal {
     Table,
     Register,
     Busy,
+    Forbidden,
     Block,
 }
 
@@ -80,6 +81,7 @@ pub fn number(r: Refusal) -> usize
         Refusal::Table => 10,
         Refusal::Register => 15,
         Refusal::Busy => 16,
+        Refusal::Forbidden => 17,
         Refusal::Block => 19,
     }
 }

@@ -1,33 +1,33 @@
 -- A call on the bytes is the call on the state that they say, and so are calls one after the other.
 use borrow.Author.Tests.{leb-true, eqb-true, le-leb, eq-eqb}
 use native.Mathlib.Omega.{arith}
-use mathlib.Core.Path.{_≡_, refl, sym, _∙_, ap, subst}
+use mathlib.Core.Path.{_≡_, refl, sym, _∙_, ap, ap₂, subst}
 use mathlib.Core.Bool.{true, false}
 use mathlib.Core.List.{List, [], _∷_}
 use lib.ListN.{length, getD, drop}
 use lib.Dec.{leb, eqb}
-use Prim.Native.Nat.{ℕ, _≤_}
+use Prim.Native.Nat.{ℕ, _≤_, _<_}
 use Rattle.image.specs.Judged.{numberOf}
 use Rattle.image.specs.declared.Refusal.{Refusal}
 use Rattle.image.proofs.Numbers.{both}
 use Rattle.arbiter.specs.declared.Call.{Call}
-use Rattle.arbiter.specs.Calls.{outcome, after, answer, afterAll}
+use Rattle.arbiter.specs.Calls.{after, answer}
+use Rattle.arbiter.specs.Callers.{outcomeBy, afterBy, answerBy, Asked, afterAllBy, answersTo, concerningBy}
 use Rattle.arbiter.specs.Device.{sized}
-use Rattle.arbiter.specs.Conditions.{RefusedFor}
+use Rattle.arbiter.specs.Conditions.{RefusedBy, resets}
 use Rattle.arbiter.specs.Sequences.{Reached, fresh}
 use Rattle.arbiter.specs.declared.Call.the-variants.{Reset}
-use Rattle.arbiter.proofs.Reach.{reached-all}
+use Rattle.arbiter.proofs.Rights.{promised, not-refused, sixteen-by, if-right, with-right, reached-by}
+use Rattle.arbiter.proofs.Unseen.{same-answers}
 use Rattle.runs.proofs.Cases.{either}
-use Rattle.arbiter.proofs.Kept.{sixteen}
 use Rattle.lent.proofs.Packing.{state-again, there-and-back, bytes-length, cores-length}
-use Rattle.arbiter.proofs.Reasons.{promised}
 use Rattle.lent.specs.Bytes.{bytesOf, stateOf}
 use Rattle.arbiter.specs.declared.Arbiter.{Arbiter}
 use Rattle.arbiter.specs.declared.Outcome.{Outcome}
 use Rattle.arbiter.specs.declared.Reply.{Reply}
 use Rattle.arbiter.specs.declared.Reply.the-variants.{Accepted, Value, Refused}
 use Rattle.lent.specs.Answers.{doneInto, refusedInto, beside}
-use Rattle.lent.specs.OnBytes.{repliedInto, room, arbiterInto, arbiterCall, valueOf, Lends, WholeCall, Asked, bytesAfter, callsOf, AllMade}
+use Rattle.lent.specs.OnBytes.{repliedInto, room, arbiterInto, arbiterCall, valueOf, Lends, WholeCall, Lending, calledOn, bytesAfter, askedOf, AllMade, toldOf, toldTo}
 
 module _ (lent : List ℕ) (r : Reply) where
   pub replied-accepted : (call : ℕ × List ℕ) → r ≡ Accepted → doneInto lent ≡ call → repliedInto r lent ≡ call
@@ -50,34 +50,34 @@ has-room s lent e =
     let p = both (leb 2 (length lent)) (eqb (length s) 51) e in
     (eqb-true (length s) 51 (p .1), leb-true 2 (length lent) (p .0))
 
-module _ (c : Call) (s lent : List ℕ) where
-  pub no-room : room s lent ≡ false → arbiterCall c s lent ≡ (2, s, lent)
+module _ (k : ℕ) (c : Call) (s lent : List ℕ) where
+  pub no-room : room s lent ≡ false → arbiterCall k c s lent ≡ (2, s, lent)
   unfolding arbiterCall
   no-room e = rw e
 
-  pub with-room : room s lent ≡ true → (a : Arbiter) → a ≡ stateOf s → (o : Outcome) → o ≡ outcome c a → (call : ℕ × List ℕ × List ℕ)
-      → arbiterInto o lent ≡ call → arbiterCall c s lent ≡ call
+  pub with-room : room s lent ≡ true → (a : Arbiter) → a ≡ stateOf s → (o : Outcome) → o ≡ outcomeBy k c a → (call : ℕ × List ℕ × List ℕ)
+      → arbiterInto o lent ≡ call → arbiterCall k c s lent ≡ call
   unfolding arbiterCall
   with-room e a p o q call h = rw (e, ← p, ← q) h
 
 -- ---- what the caller finds
 
-module _ (c : Call) (s lent : List ℕ) (status : ℕ) (exit found : List ℕ) (is : arbiterCall c s lent ≡ (status, exit, found)) where
+module _ (k : ℕ) (c : Call) (s lent : List ℕ) (status : ℕ) (exit found : List ℕ) (is : arbiterCall k c s lent ≡ (status, exit, found)) where
   module _ (h : Lends s lent) where
-    there : arbiterInto (outcome c (stateOf s)) lent ≡ (status, exit, found)
+    there : arbiterInto (outcomeBy k c (stateOf s)) lent ≡ (status, exit, found)
     unfolding arbiterCall room
     there = rw (le-leb 2 (length lent) (omega (arith, h .1)), eq-eqb (length s) 51 (h .0)) at is
 
-    leads : exit ≡ bytesOf (after c (stateOf s))
+    leads : exit ≡ bytesOf (afterBy k c (stateOf s))
     leads = sym (ap (λ (y : ℕ × List ℕ × List ℕ). y .1) there)
 
     -- by the answer
-    told : (r : Reply) → answer c (stateOf s) ≡ r → beside (bytesOf (after c (stateOf s))) (repliedInto r lent) ≡ (status, exit, found)
-    told r e = ap (λ (x : Reply). beside (bytesOf (after c (stateOf s))) (repliedInto x lent)) (sym e) ∙ there
+    told : (r : Reply) → answerBy k c (stateOf s) ≡ r → beside (bytesOf (afterBy k c (stateOf s))) (repliedInto r lent) ≡ (status, exit, found)
+    told r e = ap (λ (x : Reply). beside (bytesOf (afterBy k c (stateOf s))) (repliedInto x lent)) (sym e) ∙ there
 
-    refused-said : (r : Refusal) → RefusedFor (stateOf s) c r → (status ≡ 1) × (getD found 0 0 ≡ numberOf r) × (getD found 1 0 ≡ 0) × (exit ≡ s)
+    refused-said : (r : Refusal) → RefusedBy k (stateOf s) c r → (status ≡ 1) × (getD found 0 0 ≡ numberOf r) × (getD found 1 0 ≡ 0) × (exit ≡ s)
     refused-said r x =
-        let p = promised c (stateOf s) (outcome c (stateOf s)) refl in
+        let p = promised k c (stateOf s) (outcomeBy k c (stateOf s)) refl in
         let e = p .whenever r x in
         let t = told (Refused r 0) e in
         let f : numberOf r ∷ 0 ∷ drop 2 lent ≡ found = ap (λ (y : ℕ × List ℕ × List ℕ). y .2) t in (
@@ -88,7 +88,7 @@ module _ (c : Call) (s lent : List ℕ) (status : ℕ) (exit found : List ℕ) (
         )
 
     -- a reply that is no refusal puts 0 and the value
-    done-told : (r : Reply) → answer c (stateOf s) ≡ r → ((x : Refusal) (place : ℕ) → r ≡ Refused x place → ⊥)
+    done-told : (r : Reply) → answerBy k c (stateOf s) ≡ r → ((x : Refusal) (place : ℕ) → r ≡ Refused x place → ⊥)
         → (status ≡ 0) × (getD found 0 0 ≡ 0) × (getD found 1 0 ≡ valueOf r)
     done-told Accepted e n = let t = told Accepted e in (
       sym (ap (λ (y : ℕ × List ℕ × List ℕ). y .0) t),
@@ -102,34 +102,39 @@ module _ (c : Call) (s lent : List ℕ) (status : ℕ) (exit found : List ℕ) (
     )
     done-told (Refused r place) e n = absurd (n r place refl)
 
-    done-said : ((r : Refusal) → RefusedFor (stateOf s) c r → ⊥)
+    done-said : ((r : Refusal) → RefusedBy k (stateOf s) c r → ⊥)
         → (status ≡ 0) × (getD found 0 0 ≡ 0) × (getD found 1 0 ≡ valueOf (answer c (stateOf s))) × (stateOf exit ≡ after c (stateOf s))
     done-said free =
-        let d = done-told (answer c (stateOf s)) refl (λ r place e. free r (promised c (stateOf s) (outcome c (stateOf s)) refl .because r place e .0)) in
-        (d .0, d .1, d .2, ap stateOf leads ∙ state-again (after c (stateOf s)))
+        let d = done-told (answerBy k c (stateOf s)) refl (λ r place e. free r (promised k c (stateOf s) (outcomeBy k c (stateOf s)) refl .because r place e .0)) in
+        let i = not-refused k c (stateOf s) free in (
+          d .0,
+          d .1,
+          d .2 ∙ ap (λ (o : Outcome). valueOf (o .reply)) i,
+          ap stateOf leads ∙ state-again (afterBy k c (stateOf s)) ∙ ap (λ (o : Outcome). o .state) i,
+        )
 
-    refused-because : (r : Reply) → answer c (stateOf s) ≡ r → status ≡ 1 → (x : Refusal) × RefusedFor (stateOf s) c x × (getD found 0 0 ≡ numberOf x)
+    refused-because : (r : Reply) → answerBy k c (stateOf s) ≡ r → status ≡ 1 → (x : Refusal) × RefusedBy k (stateOf s) c x × (getD found 0 0 ≡ numberOf x)
     refused-because Accepted e z = absurd (let w = ap (λ (y : ℕ × List ℕ × List ℕ). y .0) (told Accepted e) in omega arith)
     refused-because (Value v) e z = absurd (let w = ap (λ (y : ℕ × List ℕ × List ℕ). y .0) (told (Value v) e) in omega arith)
     refused-because (Refused r place) e z =
-        let x = promised c (stateOf s) (outcome c (stateOf s)) refl .because r place e .0 in
+        let x = promised k c (stateOf s) (outcomeBy k c (stateOf s)) refl .because r place e .0 in
         (r, x, refused-said r x .1)
 
-    none-refused : status ≡ 0 → (r : Refusal) → RefusedFor (stateOf s) c r → ⊥
+    none-refused : status ≡ 0 → (r : Refusal) → RefusedBy k (stateOf s) c r → ⊥
     none-refused z r x = let w = refused-said r x .0 in omega arith
 
   -- by what is lent
   not-lent : (Lends s lent → ⊥) → _≡_ {A = ℕ × List ℕ × List ℕ} (2, s, lent) (status, exit, found)
-  not-lent n = sym (no-room c s lent (either (room s lent) (λ t. absurd (n (has-room s lent t))) (λ t. t))) ∙ is
+  not-lent n = sym (no-room k c s lent (either (room s lent) (λ t. absurd (n (has-room s lent t))) (λ t. t))) ∙ is
 
   lent-if : (status ≡ 2 → ⊥) → Lends s lent
-  lent-if n = either (room s lent) (has-room s lent) (λ t. absurd (n (sym (ap (λ (y : ℕ × List ℕ × List ℕ). y .0) (sym (no-room c s lent t) ∙ is)))))
+  lent-if n = either (room s lent) (has-room s lent) (λ t. absurd (n (sym (ap (λ (y : ℕ × List ℕ × List ℕ). y .0) (sym (no-room k c s lent t) ∙ is)))))
 
-  pub whole-call : WholeCall c s lent status exit found
+  pub whole-call : WholeCall k c s lent status exit found
   whole-call = record {
     refused = λ h r x. refused-said (omega (arith, h .0), omega (arith, h .1)) r x;
     done = λ h free. done-said (omega (arith, h .0), omega (arith, h .1)) free;
-    because = λ z. let h = lent-if (λ e. omega arith) in (h, refused-because h (answer c (stateOf s)) refl z);
+    because = λ z. let h = lent-if (λ e. omega arith) in (h, refused-because h (answerBy k c (stateOf s)) refl z);
     possible = λ z. let h = lent-if (λ e. omega arith) in (h, none-refused h z);
     short = λ n. let e = not-lent n in (
       sym (ap (λ (y : ℕ × List ℕ × List ℕ). y .0) e),
@@ -140,27 +145,85 @@ module _ (c : Call) (s lent : List ℕ) (status : ℕ) (exit found : List ℕ) (
 
 -- ---- one call after the other
 
-module _ (c : Call) (s lent : List ℕ) (h : Lends s lent) where
-  -- the bytes of a call say the state that it leaves, and are 51
-  call-leads : stateOf (arbiterCall c s lent .1) ≡ after c (stateOf s)
-  call-leads = ap stateOf (leads c s lent _ _ _ refl h) ∙ state-again (after c (stateOf s))
+-- what a reply tells
+abbrev spoken : Reply → ℕ × ℕ × ℕ
+spoken r = toldOf (beside [] (repliedInto r []))
 
-  call-long : length (arbiterCall c s lent .1) ≡ 51
+spoken-is : (r : Reply) (lent : List ℕ) → toldOf (beside [] (repliedInto r lent)) ≡ spoken r
+spoken-is Accepted lent = refl
+spoken-is (Value v) lent = refl
+spoken-is (Refused r place) lent = refl
+
+module _ (x : Lending) (s : List ℕ) (h : Lends s (x .lent)) where
+  abbrev who : ℕ
+  who = x .asked .caller
+
+  abbrev what : Call
+  what = x .asked .call
+
+  -- the bytes of a call say the state that it leaves, and are 51
+  call-leads : stateOf (calledOn x s .1) ≡ afterBy who what (stateOf s)
+  call-leads = ap stateOf (leads who what s (x .lent) _ _ _ refl h) ∙ state-again (afterBy who what (stateOf s))
+
+  call-long : length (calledOn x s .1) ≡ 51
   unfolding stateOf
   call-long =
-      ap (λ (t : List ℕ). length t) (leads c s lent _ _ _ refl h) ∙ bytes-length (after c (stateOf s)) (sixteen c (stateOf s) (cores-length s (h .0)))
+      ap (λ (t : List ℕ). length t) (leads who what s (x .lent) _ _ _ refl h)
+      ∙ bytes-length (afterBy who what (stateOf s)) (sixteen-by who what (stateOf s) (cores-length s (h .0)))
+
+  call-tells : toldOf (calledOn x s) ≡ spoken (answerBy who what (stateOf s))
+  call-tells = sym (ap toldOf (there who what s (x .lent) _ _ _ refl h)) ∙ spoken-is (answerBy who what (stateOf s)) (x .lent)
 
 -- so do those of calls one after the other
-pub bytes-lead : (xs : List Asked) (s : List ℕ) → AllMade xs → length s ≡ 51 → stateOf (bytesAfter xs s) ≡ afterAll (callsOf xs) (stateOf s)
-unfolding bytesAfter callsOf afterAll
+pub bytes-lead : (xs : List Lending) (s : List ℕ) → AllMade xs → length s ≡ 51 → stateOf (bytesAfter xs s) ≡ afterAllBy (askedOf xs) (stateOf s)
+unfolding bytesAfter askedOf afterAllBy
 bytes-lead [] s m e = refl
 bytes-lead (x ∷ xs) s m e =
-    bytes-lead xs (arbiterCall (x .call) s (x .lent) .1) (m .1) (call-long (x .call) s (x .lent) (e, m .0))
-    ∙ ap (afterAll (callsOf xs)) (call-leads (x .call) s (x .lent) (e, m .0))
+    bytes-lead xs (calledOn x s .1) (m .1) (call-long x s (e, m .0))
+    ∙ ap (afterAllBy (askedOf xs)) (call-leads x s (e, m .0))
 
--- and behind a reset that is accepted they are reached states: every law of `arbiter` about those holds of them
-pub bytes-reached : (cores slot : ℕ) (lent : List ℕ) (xs : List Asked) (s : List ℕ) → sized cores slot ≡ true → 2 ≤ length lent → AllMade xs → length s ≡ 51
-    → Reached (stateOf (bytesAfter (record { call = Reset cores slot; lent = lent } ∷ xs) s))
-unfolding afterAll callsOf
-bytes-reached cores slot lent xs s z h m e =
-    subst Reached (sym (bytes-lead (record { call = Reset cores slot; lent = lent } ∷ xs) s (h, m) e)) (reached-all (callsOf xs) (fresh (stateOf s) cores slot z))
+-- the workshop's reset, with an answer lent to it
+abbrev pub resetOf : ℕ → ℕ → List ℕ → Lending
+resetOf cores slot lent = record { asked = record { caller = 16; call = Reset cores slot }; lent = lent }
+
+module _ (cores slot : ℕ) (z : sized cores slot ≡ true) where
+  reset-by : (a : Arbiter) → afterBy 16 (Reset cores slot) a ≡ after (Reset cores slot) a
+  reset-by a = ap (λ (o : Outcome). o .state) (with-right 16 (Reset cores slot) a (if-right 16 (Reset cores slot) resets))
+
+  -- behind a reset that is accepted they are reached states: every law of `arbiter` about those holds of them
+  pub bytes-reached : (lent : List ℕ) (xs : List Lending) (s : List ℕ) → 2 ≤ length lent → AllMade xs → length s ≡ 51
+      → Reached (stateOf (bytesAfter (resetOf cores slot lent ∷ xs) s))
+  unfolding afterAllBy askedOf
+  bytes-reached lent xs s h m e =
+      subst Reached (sym (bytes-lead (resetOf cores slot lent ∷ xs) s (h, m) e))
+      (reached-by (askedOf xs) (subst Reached (sym (reset-by (stateOf s))) (fresh (stateOf s) cores slot z)))
+
+-- ---- what a core is told
+
+speak : List Reply → List (ℕ × ℕ × ℕ)
+speak [] = []
+speak (r ∷ rs) = spoken r ∷ speak rs
+
+-- a core is told its answers
+told-answers : (k : ℕ) (xs : List Lending) (s : List ℕ) → AllMade xs → length s ≡ 51 → toldTo k xs s ≡ speak (answersTo k (askedOf xs) (stateOf s))
+unfolding toldTo askedOf answersTo speak
+told-answers k [] s m e = refl
+told-answers k (x ∷ xs) s m e =
+    let h : Lends s (x .lent) = (e, m .0) in
+    let later = told-answers k xs (calledOn x s .1) (m .1) (call-long x s h) ∙ ap (λ (a : Arbiter). speak (answersTo k (askedOf xs) a)) (call-leads x s h) in
+    either (eqb (x .asked .caller) k)
+    (λ t. rw t (ap₂ _∷_ (call-tells x s h) later))
+    (λ t. rw t later)
+
+-- W8 on the bytes: from one reset on, with a core's own calls and the workshop's ticks and resets equal and in the same order, the core is told the same
+pub bytes-same-answers : (k : ℕ) → k < 16 → (cores slot : ℕ) → sized cores slot ≡ true → (lent lent′ s t : List ℕ) (xs ys : List Lending)
+    → Lends s lent → Lends t lent′ → AllMade xs → AllMade ys → concerningBy k (askedOf xs) ≡ concerningBy k (askedOf ys)
+    → toldTo k xs (calledOn (resetOf cores slot lent) s .1) ≡ toldTo k ys (calledOn (resetOf cores slot lent′) t .1)
+bytes-same-answers k core cores slot z lent lent′ s t xs ys h i m n e =
+    behind xs (resetOf cores slot lent) s h m
+    ∙ ap speak (same-answers k core cores slot z (stateOf s) (stateOf t) (askedOf xs) (askedOf ys) e)
+    ∙ sym (behind ys (resetOf cores slot lent′) t i n)
+  where
+    behind : (xs : List Lending) (x : Lending) (s : List ℕ) → Lends s (x .lent) → AllMade xs
+        → toldTo k xs (calledOn x s .1) ≡ speak (answersTo k (askedOf xs) (afterBy (x .asked .caller) (x .asked .call) (stateOf s)))
+    behind xs x s h m = told-answers k xs (calledOn x s .1) m (call-long x s h) ∙ ap (λ (a : Arbiter). speak (answersTo k (askedOf xs) a)) (call-leads x s h)

@@ -1,5 +1,6 @@
--- Calls to the arbiter on the 51 bytes of its state (document 02, "The arbiter as a device"): what a caller from C or Rust finds after a call,
--- the status and both lent slices at exit. Definitions only; the state and the answer are `outcome` of crate `arbiter`.
+-- Calls to the arbiter on the 51 bytes of its state (document 02, "The arbiter as a device", "Who may touch the arbiter"): what a caller from C
+-- or Rust finds after a call, the status and both lent slices at exit. Definitions only; the state and the answer are `outcomeBy` of crate
+-- `arbiter`.
 --
 -- Statuses: 0 done, 1 refused, 2 the answer has fewer than 2 places or the state is not 51 bytes long. With 2 both keep their contents.
 use mathlib.Core.Path.{_≡_}
@@ -11,8 +12,9 @@ use Prim.Native.Nat.{ℕ, _≤_}
 use Rattle.image.specs.Judged.{numberOf}
 use Rattle.image.specs.declared.Refusal.{Refusal}
 use Rattle.arbiter.specs.declared.Call.{Call}
-use Rattle.arbiter.specs.Calls.{outcome, after, answer}
-use Rattle.arbiter.specs.Conditions.{RefusedFor}
+use Rattle.arbiter.specs.Calls.{after, answer}
+use Rattle.arbiter.specs.Callers.{outcomeBy, Asked}
+use Rattle.arbiter.specs.Conditions.{RefusedBy}
 use Rattle.lent.specs.Bytes.{bytesOf, stateOf}
 use Rattle.arbiter.specs.declared.Outcome.{Outcome}
 use Rattle.arbiter.specs.declared.Reply.{Reply}
@@ -33,9 +35,9 @@ room state lent = leb 2 (length lent) && eqb (length state) 51
 abbrev pub arbiterInto : Outcome → List ℕ → ℕ × List ℕ × List ℕ
 arbiterInto o lent = beside (bytesOf (o .state)) (repliedInto (o .reply) lent)
 
--- a call on the state that the bytes say
-unfoldable pub arbiterCall : Call → List ℕ → List ℕ → ℕ × List ℕ × List ℕ
-arbiterCall c state lent = cond (room state lent) (arbiterInto (outcome c (stateOf state)) lent) (2, state, lent)
+-- a caller's call on the state that the bytes say
+unfoldable pub arbiterCall : ℕ → Call → List ℕ → List ℕ → ℕ × List ℕ × List ℕ
+arbiterCall k c state lent = cond (room state lent) (arbiterInto (outcomeBy k c (stateOf state)) lent) (2, state, lent)
 
 -- the value read, 0 where nothing is
 abbrev pub valueOf : Reply → ℕ
@@ -49,33 +51,46 @@ Lends state lent = (length state ≡ 51) × (2 ≤ length lent)
 
 -- what the caller finds: a call that is refused says for what, and leaves every byte; any other is done, the answer has the value read, and the
 -- bytes say the state that it leaves. Either status says so, and with less lent nothing is written
-pub record WholeCall (c : Call) (state lent : List ℕ) (status : ℕ) (exit found : List ℕ) : Type 0 where
-  pub refused : Lends state lent → (r : Refusal) → RefusedFor (stateOf state) c r
+pub record WholeCall (k : ℕ) (c : Call) (state lent : List ℕ) (status : ℕ) (exit found : List ℕ) : Type 0 where
+  pub refused : Lends state lent → (r : Refusal) → RefusedBy k (stateOf state) c r
       → (status ≡ 1) × (getD found 0 0 ≡ numberOf r) × (getD found 1 0 ≡ 0) × (exit ≡ state)
-  pub done : Lends state lent → ((r : Refusal) → RefusedFor (stateOf state) c r → ⊥)
+  pub done : Lends state lent → ((r : Refusal) → RefusedBy k (stateOf state) c r → ⊥)
       → (status ≡ 0) × (getD found 0 0 ≡ 0) × (getD found 1 0 ≡ valueOf (answer c (stateOf state))) × (stateOf exit ≡ after c (stateOf state))
-  pub because : status ≡ 1 → Lends state lent × ((r : Refusal) × RefusedFor (stateOf state) c r × (getD found 0 0 ≡ numberOf r))
-  pub possible : status ≡ 0 → Lends state lent × ((r : Refusal) → RefusedFor (stateOf state) c r → ⊥)
+  pub because : status ≡ 1 → Lends state lent × ((r : Refusal) × RefusedBy k (stateOf state) c r × (getD found 0 0 ≡ numberOf r))
+  pub possible : status ≡ 0 → Lends state lent × ((r : Refusal) → RefusedBy k (stateOf state) c r → ⊥)
   pub short : (Lends state lent → ⊥) → (status ≡ 2) × (exit ≡ state) × (found ≡ lent)
 
 -- ---- one call after the other
 
--- a call, and the answer that is lent to it
-pub record Asked : Type 0 where
-  pub call : Call
+-- a caller's call, and the answer that is lent to it
+pub record Lending : Type 0 where
+  pub asked : Asked
   pub lent : List ℕ
 
--- the bytes that calls leave, the first of the list first
-unfoldable pub bytesAfter : List Asked → List ℕ → List ℕ
-bytesAfter [] s = s
-bytesAfter (x ∷ xs) s = bytesAfter xs (arbiterCall (x .call) s (x .lent) .1)
+-- the status, the bytes and the answer that it leaves
+abbrev pub calledOn : Lending → List ℕ → ℕ × List ℕ × List ℕ
+calledOn x s = arbiterCall (x .asked .caller) (x .asked .call) s (x .lent)
 
--- the calls alone
-unfoldable pub callsOf : List Asked → List Call
-callsOf [] = []
-callsOf (x ∷ xs) = x .call ∷ callsOf xs
+-- the bytes that calls leave, the first of the list first
+unfoldable pub bytesAfter : List Lending → List ℕ → List ℕ
+bytesAfter [] s = s
+bytesAfter (x ∷ xs) s = bytesAfter xs (calledOn x s .1)
+
+-- the calls and their callers alone
+unfoldable pub askedOf : List Lending → List Asked
+askedOf [] = []
+askedOf (x ∷ xs) = x .asked ∷ askedOf xs
 
 -- each with two places or more: with fewer there is no call
-abbrev pub AllMade : List Asked → Type 0
+abbrev pub AllMade : List Lending → Type 0
 AllMade [] = Unit {0}
 AllMade (x ∷ xs) = (2 ≤ length (x .lent)) × AllMade xs
+
+-- the status and the first two places of the answer
+abbrev pub toldOf : ℕ × List ℕ × List ℕ → ℕ × ℕ × ℕ
+toldOf y = (y .0, getD (y .2) 0 0, getD (y .2) 1 0)
+
+-- "every answer to that core", in order
+unfoldable pub toldTo : ℕ → List Lending → List ℕ → List (ℕ × ℕ × ℕ)
+toldTo k [] s = []
+toldTo k (x ∷ xs) s = cond (eqb (x .asked .caller) k) (toldOf (calledOn x s) ∷ toldTo k xs (calledOn x s .1)) (toldTo k xs (calledOn x s .1))

@@ -1,13 +1,13 @@
 // lent: what the library's functions do with what C and Rust programs lend: the first places of an answer are set, and a call to the arbiter is
 // made on the bytes of its state.
 //
-// `put`, `done` and `refuse` set an answer's first two places, the latter two with the status (specs/Answers.antt). `call` asks nothing of its
-// caller: the status, the bytes and the answer at exit equal `arbiterCall` (specs/OnBytes.antt), which is `outcome` of crate `arbiter` over the
-// bytes, for every call, refused ones too, and every length of both slices; and `WholeCall` says of what the caller finds when it is refused and
+// `put`, `done` and `refuse` set an answer's first two places, the latter two with the status (specs/Answers.antt). `call` has no `requires`: the
+// status, the bytes and the answer at exit equal `arbiterCall` (specs/OnBytes.antt), which is `outcomeBy` of crate `arbiter` over the bytes, for
+// every caller and call, refused ones too, and every length of both slices; and `WholeCall` says what the caller finds when it is refused and
 // when done. Wrong answers that it rules out: a state of 50 bytes that is taken, a place that is told before its number, an answer of one place
 // that is written to.
-// Calls one after the other lead where `afterAll` of `arbiter` leads, behind a reset to reached states, so its laws hold of the bytes
-// (`bytes-lead`, `bytes-reached` in proofs/Bytewise.antt).
+// Calls one after the other lead where `afterAllBy` of `arbiter` leads, behind a reset to reached states, and tell a core the same whatever other
+// cores call, so its laws hold of the bytes (`bytes-lead`, `bytes-reached`, `bytes-same-answers` in proofs/Bytewise.antt).
 ghost use mathlib.Core.Path.{_≡_};
 ghost use mathlib.Core.List.{_∷_};
 ghost use Prim.Native.Nat.{_≤_};
@@ -97,14 +97,14 @@ fn conclude(state: &mut [u8], answer: &mut [u64], o: Outcome) -> u64
     reply(answer, r)
 }
 
-// A call to the arbiter whose state is in the bytes: the state after it is put back, and the answer takes what it answers.
-pub fn call(state: &mut [u8], answer: &mut [u64], c: Call) -> u64
-    ensures equality { λ r. ⌜ arbiterCall c (now (state .entry)) (now (answer .entry)) ≡ (r, now (state .exit), now (answer .exit)) ⌝ }
-    ensures whole { λ r. ⌜ WholeCall c (now (state .entry)) (now (answer .entry)) r (now (state .exit)) (now (answer .exit)) ⌝ }
+// A caller's call to the arbiter whose state is in the bytes: the state after it is put back, and the answer takes what it answers.
+pub fn call(state: &mut [u8], answer: &mut [u64], caller: usize, c: Call) -> u64
+    ensures equality { λ r. ⌜ arbiterCall caller c (now (state .entry)) (now (answer .entry)) ≡ (r, now (state .exit), now (answer .exit)) ⌝ }
+    ensures whole { λ r. ⌜ WholeCall caller c (now (state .entry)) (now (answer .entry)) r (now (state .exit)) (now (answer .exit)) ⌝ }
 {
     if !has_room(state, answer) {
         return SHORT;
     }
-    let o = arbiter::calls::on(state_of(state), c);
+    let o = arbiter::callers::asked(state_of(state), caller, c);
     conclude(state, answer, o)
 }

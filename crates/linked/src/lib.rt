@@ -1,6 +1,6 @@
 // linked: the ten functions that C and Rust programs link (include/slotfigures.h, wrapper/), over plain numbers and lent slices.
 //
-// They ask nothing of their caller and promise that the status and each lent slice at exit equal definitions over the image's bytes, the task
+// They have no `requires`, and promise that the status and each lent slice at exit equal definitions over the image's bytes, the task
 // table's numbers or the arbiter's bytes, and the slices at entry, for what is accepted and what is refused alike (specs/Linked.antt; of the
 // arbiter crates/lent/specs/OnBytes.antt):
 //   slotfigures_judge     `judgeCall`; wrong answers that it rules out: the place before the number, status 0 for a refused image
@@ -9,11 +9,11 @@
 //   slotfigures_preview   `previewCall`; ruled out: the figures of the image as it is, a table written to by a refused preview
 //   slotfigures_finishes  `finishesCall`; ruled out: another number than 21, finishes of fewer than 64 places that are written to
 //   slotfigures_arbiter_reset, _tick, _write, _read, _line
-//                         `arbiterCall` of that call; ruled out: a state of 50 bytes that is taken, flags where the length stands
+//                         `arbiterCall` of that caller and call; ruled out: a state of 50 bytes that is taken, the core named in the caller's place
 // The numbers are those of `image::judge`, `figures::figures`, `edits::edit`, `edits::preview`, `graph::finishes` and the calls of `arbiter`,
 // whose promises hold of them. Of the places that the caller reads, `WholeFigures` and `WholePreview` repeat demand 3, `WholeEdit` what an edit
 // leaves, and `WholeFinishes` what finishes say of all starts, ends and whole runs. Calls to the arbiter one after the other lead where
-// `afterAll` of `arbiter` leads, so its laws hold of the bytes (`bytes-lead` in crates/lent/proofs/Bytewise.antt).
+// `afterAllBy` of `arbiter` leads, so its laws hold of the bytes (`bytes-lead` in crates/lent/proofs/Bytewise.antt).
 ghost use mathlib.Core.Path.{_≡_};
 ghost use Prim.Native.Nat.{_≤_};
 ghost use lib.ListN.{length};
@@ -168,40 +168,48 @@ pub extern "C" fn slotfigures_finishes(
 #[no_mangle]
 pub extern "C" fn slotfigures_arbiter_reset(
     state: &mut [u8],
+    caller: u64,
     cores: u64,
     slot: u64,
     answer: &mut [u64],
 ) -> u64
-    ensures equality { λ r. ⌜ arbiterCall (Reset cores slot) (now (state .entry)) (now (answer .entry)) ≡ (r, now (state .exit), now (answer .exit)) ⌝ }
-    ensures whole { λ r. ⌜ WholeCall (Reset cores slot) (now (state .entry)) (now (answer .entry)) r (now (state .exit)) (now (answer .exit)) ⌝ }
+    ensures equality { λ r. ⌜ arbiterCall caller (Reset cores slot) (now (state .entry)) (now (answer .entry)) ≡ (r, now (state .exit), now (answer .exit)) ⌝ }
+    ensures whole { λ r. ⌜ WholeCall caller (Reset cores slot) (now (state .entry)) (now (answer .entry)) r (now (state .exit)) (now (answer .exit)) ⌝ }
 {
-    lent::call(state, answer, Call::Reset(cores as usize, slot as usize))
+    lent::call(
+        state,
+        answer,
+        caller as usize,
+        Call::Reset(cores as usize, slot as usize),
+    )
 }
 
 // One cycle of the bus.
 #[no_mangle]
-pub extern "C" fn slotfigures_arbiter_tick(state: &mut [u8], answer: &mut [u64]) -> u64
-    ensures equality { λ r. ⌜ arbiterCall Tick (now (state .entry)) (now (answer .entry)) ≡ (r, now (state .exit), now (answer .exit)) ⌝ }
-    ensures whole { λ r. ⌜ WholeCall Tick (now (state .entry)) (now (answer .entry)) r (now (state .exit)) (now (answer .exit)) ⌝ }
+pub extern "C" fn slotfigures_arbiter_tick(state: &mut [u8], caller: u64, answer: &mut [u64]) -> u64
+    ensures equality { λ r. ⌜ arbiterCall caller Tick (now (state .entry)) (now (answer .entry)) ≡ (r, now (state .exit), now (answer .exit)) ⌝ }
+    ensures whole { λ r. ⌜ WholeCall caller Tick (now (state .entry)) (now (answer .entry)) r (now (state .exit)) (now (answer .exit)) ⌝ }
 {
-    lent::call(state, answer, Call::Tick)
+    lent::call(state, answer, caller as usize, Call::Tick)
 }
 
 // A value to a core's register: 0 length, 1 flags, 2 interrupt mask.
 #[no_mangle]
 pub extern "C" fn slotfigures_arbiter_write(
     state: &mut [u8],
+    caller: u64,
     core: u64,
     register: u64,
     value: u64,
     answer: &mut [u64],
 ) -> u64
-    ensures equality { λ r. ⌜ arbiterCall (Write core register value) (now (state .entry)) (now (answer .entry)) ≡ (r, now (state .exit), now (answer .exit)) ⌝ }
-    ensures whole { λ r. ⌜ WholeCall (Write core register value) (now (state .entry)) (now (answer .entry)) r (now (state .exit)) (now (answer .exit)) ⌝ }
+    ensures equality { λ r. ⌜ arbiterCall caller (Write core register value) (now (state .entry)) (now (answer .entry)) ≡ (r, now (state .exit), now (answer .exit)) ⌝ }
+    ensures whole { λ r. ⌜ WholeCall caller (Write core register value) (now (state .entry)) (now (answer .entry)) r (now (state .exit)) (now (answer .exit)) ⌝ }
 {
     lent::call(
         state,
         answer,
+        caller as usize,
         Call::Write(core as usize, register as usize, value as usize),
     )
 }
@@ -210,21 +218,32 @@ pub extern "C" fn slotfigures_arbiter_write(
 #[no_mangle]
 pub extern "C" fn slotfigures_arbiter_read(
     state: &mut [u8],
+    caller: u64,
     core: u64,
     register: u64,
     answer: &mut [u64],
 ) -> u64
-    ensures equality { λ r. ⌜ arbiterCall (Read core register) (now (state .entry)) (now (answer .entry)) ≡ (r, now (state .exit), now (answer .exit)) ⌝ }
-    ensures whole { λ r. ⌜ WholeCall (Read core register) (now (state .entry)) (now (answer .entry)) r (now (state .exit)) (now (answer .exit)) ⌝ }
+    ensures equality { λ r. ⌜ arbiterCall caller (Read core register) (now (state .entry)) (now (answer .entry)) ≡ (r, now (state .exit), now (answer .exit)) ⌝ }
+    ensures whole { λ r. ⌜ WholeCall caller (Read core register) (now (state .entry)) (now (answer .entry)) r (now (state .exit)) (now (answer .exit)) ⌝ }
 {
-    lent::call(state, answer, Call::Read(core as usize, register as usize))
+    lent::call(
+        state,
+        answer,
+        caller as usize,
+        Call::Read(core as usize, register as usize),
+    )
 }
 
 // A core's interrupt line.
 #[no_mangle]
-pub extern "C" fn slotfigures_arbiter_line(state: &mut [u8], core: u64, answer: &mut [u64]) -> u64
-    ensures equality { λ r. ⌜ arbiterCall (Line core) (now (state .entry)) (now (answer .entry)) ≡ (r, now (state .exit), now (answer .exit)) ⌝ }
-    ensures whole { λ r. ⌜ WholeCall (Line core) (now (state .entry)) (now (answer .entry)) r (now (state .exit)) (now (answer .exit)) ⌝ }
+pub extern "C" fn slotfigures_arbiter_line(
+    state: &mut [u8],
+    caller: u64,
+    core: u64,
+    answer: &mut [u64],
+) -> u64
+    ensures equality { λ r. ⌜ arbiterCall caller (Line core) (now (state .entry)) (now (answer .entry)) ≡ (r, now (state .exit), now (answer .exit)) ⌝ }
+    ensures whole { λ r. ⌜ WholeCall caller (Line core) (now (state .entry)) (now (answer .entry)) r (now (state .exit)) (now (answer .exit)) ⌝ }
 {
-    lent::call(state, answer, Call::Line(core as usize))
+    lent::call(state, answer, caller as usize, Call::Line(core as usize))
 }

@@ -19,16 +19,16 @@ same-length-2 c = search needs
 returns : tie.Need-returns
 returns c =
     let a = c .before .before .before .before .before .before .args in
-    let is = no-room (a .c) (a .state .now) (a .answer .now) (sym (c .before .has-room .ensures) ∙ not-true _ (c .if1 .taken)) in
-    (is, whole-call (a .c) (a .state .now) (a .answer .now) _ _ _ is)
+    let is = no-room (a .caller) (a .c) (a .state .now) (a .answer .now) (sym (c .before .has-room .ensures) ∙ not-true _ (c .if1 .taken)) in
+    (is, whole-call (a .caller) (a .c) (a .state .now) (a .answer .now) _ _ _ is)
 
 state-of-requires : tie.Need-state-of-requires
 state-of-requires c κs =
     let a = c .before .before .before .before .before .before .before .args in
     omega (arith, has-room (a .state .now) (a .answer .now) (sym (c .before .before .has-room .ensures) ∙ not-false _ (c .before .if1 .left)) .0)
 
-on-requires : tie.Need-on-requires
-on-requires c κs = search needs
+asked-requires : tie.Need-asked-requires
+asked-requires c κs = search needs
 
 conclude-requires : tie.Need-conclude-requires
 conclude-requires c κs =
@@ -46,11 +46,11 @@ returns-2 : tie.Need-returns-2
 returns-2 c =
     let a = c .before .before .before .before .before .before .before .before .before .before .before .before .before .before .before .before .args in
     let t = c .before .before .before .before .before .before .before .before .state-of in
-    let o = c .before .before .before .before .before .before .before .on in
+    let o = c .before .before .before .before .before .before .before .asked in
     let is =
-    with-room (a .c) (a .state .now) (a .answer .now) (sym (c .before .before .before .before .before .before .before .before .before .before .before .has-room .ensures) ∙ not-false _ (c .before .before .before .before .before .before .before .before .before .before .if1 .left))
+    with-room (a .caller) (a .c) (a .state .now) (a .answer .now) (sym (c .before .before .before .before .before .before .before .before .before .before .before .has-room .ensures) ∙ not-false _ (c .before .before .before .before .before .before .before .before .before .before .if1 .left))
     (t .result) (t .ensures) (o .result) (o .ensures) _ (c .before .before .before .before .conclude .ensures) in
-    (is, whole-call (a .c) (a .state .now) (a .answer .now) _ _ _ is)
+    (is, whole-call (a .caller) (a .c) (a .state .now) (a .answer .now) _ _ _ is)
 
 pub call-spec : {M : Type 1} → statement M
 call-spec =
@@ -61,7 +61,7 @@ call-spec =
     same-length-2
     returns
     state-of-requires
-    on-requires
+    asked-requires
     conclude-requires
     same-length-3
     same-length-4
