@@ -4,7 +4,7 @@
 // more than the length.
 // (Rust's library takes a standard output that is closed, or open for reading only, for one that takes everything, and lets no closed pipe end
 // the program by a signal.)
-use slotfigures::{Arbiter, Refusal};
+use slotfigures::{Arbiter, Core, Refusal, Workshop};
 use std::ffi::OsString;
 use std::io::Write;
 use std::process::ExitCode;
@@ -16,6 +16,13 @@ const STARRED: [(u64, u64, &[u64]); 3] = [
     (0, 5, &[0, 1]),
 ];
 
+// What a write of a core above 15 is refused with: there is no handle that could make it.
+const FORBIDDEN: Refusal = Refusal {
+    number: 17,
+    word: "forbidden",
+    place: 0,
+};
+
 // A word that is a decimal number of 64 bits, without a sign.
 fn number(word: OsString) -> Option<u64> {
     let word = word.to_str()?;
@@ -24,19 +31,19 @@ fn number(word: OsString) -> Option<u64> {
 
 // An arbiter at an offset of a bus.
 fn at(cores: u64, slot: u64, offset: u64) -> Result<Arbiter, Refusal> {
-    let mut arbiter = Arbiter::new(cores, slot)?;
+    let arbiter = Arbiter::new(cores, slot)?;
     for _ in 0..offset {
-        arbiter.tick()?;
+        arbiter.workshop().tick()?;
     }
     Ok(arbiter)
 }
 
-// The ticks from the write of a length until it is done.
-fn taken(arbiter: &mut Arbiter, core: u64, length: u64) -> Result<u64, Refusal> {
+// The ticks from the write of a length until it is done: the core calls for itself, and the workshop passes the cycles.
+fn taken(core: Core, workshop: Workshop, length: u64) -> Result<u64, Refusal> {
     let mut ticks = 0;
-    arbiter.write(core, Arbiter::LENGTH, length)?;
-    while arbiter.read(core, Arbiter::FLAGS)? != Arbiter::DONE {
-        arbiter.tick()?;
+    core.write(Arbiter::LENGTH, length)?;
+    while core.read(Arbiter::FLAGS)? != Arbiter::DONE {
+        workshop.tick()?;
         ticks += 1;
     }
     Ok(ticks)
@@ -44,7 +51,9 @@ fn taken(arbiter: &mut Arbiter, core: u64, length: u64) -> Result<u64, Refusal> 
 
 // The line of an access.
 fn line(cores: u64, slot: u64, core: u64, length: u64, offset: u64) -> Result<String, Refusal> {
-    let ticks = taken(&mut at(cores, slot, offset)?, core, length)?;
+    let arbiter = at(cores, slot, offset)?;
+    let caller = arbiter.core(core).ok_or(FORBIDDEN)?;
+    let ticks = taken(caller, arbiter.workshop(), length)?;
     let wait = ticks - length;
     Ok(format!("core {core}, length {length}, from offset {offset}: waits {wait}, done after {ticks} ticks"))
 }

@@ -4,7 +4,7 @@
  * Link target/staticlib/liblinked.a (`rt staticlib linked`; x86-64 Linux) beside the C library. The functions are those of
  * crates/linked/src/lib.rt, where they are proved to leave exactly what is said here, for every image, table, state and array.
  *
- * Every array is a pointer and then its number of elements. What no proof covers is the caller's side:
+ * Every array is a pointer and then its number of elements. What no proof covers is the calling program's side:
  *   - a pointer is not NULL and is aligned for its type, even where the number is 0 (nothing is then read or written through it);
  *   - the array has that many elements, and the arrays of one call do not overlap;
  *   - slotfigures_figures and slotfigures_preview have 1 MiB of stack, each of the others 32 KiB.
@@ -33,8 +33,8 @@ enum {
 /* The number of a refusal. Of an image the first that holds is answered: fields are judged from the front, within one in the order
  * head cut, 2, 3, 4, body cut, 5, 6; then 7, 8, 9; then, where a block is named, 19 and 5 of the durations given for it; 10 is the last.
  * Its place is the byte position of the field's tag for 1 to 6, that of the block's field for the durations given, and the image's length
- * for 7 to 10 and 19. Of an arbiter the numbers are 15 and then 16, with place 0. Of a task table the number is 21, and its place is an
- * entry's index, or 0 for the table's size. */
+ * for 7 to 10 and 19. Of an arbiter the numbers are 17, then 15 and then 16, with place 0. Of a task table the number is 21, and its place
+ * is an entry's index, or 0 for the table's size. */
 enum {
     SLOTFIGURES_CUT = 1,        /* "cut": 1 or 2 bytes left where a field's head should stand, or a body with bytes missing */
     SLOTFIGURES_TAG = 2,        /* "tag": the first field's tag is not 1, the second's not 2, or a later one's not 3 to 7 */
@@ -50,6 +50,7 @@ enum {
     SLOTFIGURES_REGISTER = 15,  /* "register": a core, register or value out of range (a reset's too), a write to the flags, or, save for
                                    a reset, a state that is not well formed (see below); slotfigures_arbiter_* only */
     SLOTFIGURES_BUSY = 16,      /* "busy": a length written while waiting or running; slotfigures_arbiter_write only */
+    SLOTFIGURES_FORBIDDEN = 17, /* "forbidden": a caller above 16 or without that right (see below); slotfigures_arbiter_* only */
     SLOTFIGURES_BLOCK = 19,     /* "block": the node named does not exist or is no plain block; slotfigures_edit and slotfigures_preview
                                    only */
     SLOTFIGURES_TASK = 21       /* "task": a table size outside 1 to 64, or else the first entry with a number out of range or a
@@ -138,22 +139,35 @@ uint64_t slotfigures_finishes(const uint64_t *table, size_t table_length, uint64
  * for p from 0 to 15. A state is well formed if each of these numbers is as said here, those of unused cores (p not below cores) too. A
  * reset makes one of any 51 bytes; every other call refuses a state that is not well formed (15), and keeps a well formed one so.
  *
+ * Each call names its caller, and that decides what it may:
+ *   0 to 15      the core of that number, whatever the bus: reads and writes its own registers and reads its own line
+ *   16           the workshop: reads the registers and the line of every core, ticks and resets; it writes no register
+ * All else is refused with 17, whatever the state: 17 goes by the caller, the core and the function, not by register or value. So core 9 of a
+ * bus of two may ask for itself, and gets 15; for another core it gets 17.
+ *
  * Of every call:
  *   state    state_length is 51; SHORT otherwise. The answer may not overlap it. REFUSED and SHORT: every byte is as it was.
- *   core, reg, value, cores, slot   all 64 bits of these numbers count: 256 is not 0
- *   answer   at least 2 places. DONE: 0 and the value read, or 0 where nothing is read. REFUSED: the number, 15 or 16, and 0.
+ *   caller, core, reg, value, cores, slot   all 64 bits of these numbers count: 256 is not 0
+ *   answer   at least 2 places. DONE: 0 and the value read, or 0 where nothing is read. REFUSED: the number, 15, 16 or 17, and 0.
  *            Later places keep their contents.
- * 15 is judged before 16.
+ * 17 is judged first, then 15, then 16.
  *
  * What is proved of these calls, one after another on one state (a call that is SHORT is none):
+ *   - They lead where the permitted ones among them lead, those that are not refused with 17; so the other laws hold of calls with callers.
  *   - Of states reached by calls from a reset: a length whose write is DONE at offset o is done after wait + length ticks and no sooner, if
  *     no reset comes between. The wait is that of an access of this length from offset o, the same that both figures go by: 0 if
  *     core * slot <= o <= (core + 1) * slot - length, else (core * slot + period - o) % period. Other calls, of every core, may come in between.
  *   - From one state, with this core's own writes and all ticks and resets equal and in the same order, the other cores' writes never alter
  *     this core's registers or line.
+ *   - From one reset that is DONE on, with a core's own calls and the workshop's ticks and resets equal and in the same order, every answer to
+ *     that core is equal: from any two states before that reset, whatever else is called. Its own calls are all that name it as caller,
+ *     forbidden ones too.
  *   - Of states reached by calls from a reset: no two cores have running set, and the offset is the number of ticks since the last
  *     accepted reset, modulo the period. */
 #define SLOTFIGURES_ARBITER_BYTES 51
+
+/* The caller that is no core. */
+#define SLOTFIGURES_ARBITER_WORKSHOP 16
 
 /* The registers of a core. */
 enum { SLOTFIGURES_ARBITER_LENGTH = 0, SLOTFIGURES_ARBITER_FLAGS = 1, SLOTFIGURES_ARBITER_MASK = 2 };
@@ -165,28 +179,30 @@ enum {
     SLOTFIGURES_ARBITER_DONE = 4     /* its access has run; until the next length is written, or a reset */
 };
 
-/* Sets cores and slot, and all else to 0: the offset and every register. Judges these two numbers alone, never the state before: 15 where
- * cores is not 2 to 16, slot not 1 to 128, or cores times slot above 256. */
-uint64_t slotfigures_arbiter_reset(uint8_t *state, size_t state_length, uint64_t cores, uint64_t slot,
+/* Sets cores and slot, and all else to 0: the offset and every register. 17: a caller that is not the workshop. Then these two numbers alone
+ * are judged, never the state before: 15 where cores is not 2 to 16, slot not 1 to 128, or cores times slot above 256. */
+uint64_t slotfigures_arbiter_reset(uint8_t *state, size_t state_length, uint64_t caller, uint64_t cores, uint64_t slot,
                                    uint64_t *answer, size_t answer_length);
 
 /* Passes a cycle. A waiting core whose slot still holds its whole length, at the offset before the tick, turns from waiting to running.
- * Each running length, that one too, falls by 1, and at 0 running gives way to done. Then the offset moves on by 1, from period - 1 to 0. */
-uint64_t slotfigures_arbiter_tick(uint8_t *state, size_t state_length, uint64_t *answer, size_t answer_length);
+ * Each running length, that one too, falls by 1, and at 0 running gives way to done. Then the offset moves on by 1, from period - 1 to 0.
+ * 17: a caller that is not the workshop. */
+uint64_t slotfigures_arbiter_tick(uint8_t *state, size_t state_length, uint64_t caller, uint64_t *answer, size_t answer_length);
 
 /* Writes a register. A length is 1 to slot; it clears done and sets waiting, and the mask stays. A mask is 0 or 1, and may be written
- * while waiting or running. 15: a core not below cores, a register above 2, any write to the flags, or another value; then 16: a length
- * while this core is waiting or running. */
-uint64_t slotfigures_arbiter_write(uint8_t *state, size_t state_length, uint64_t core, uint64_t reg, uint64_t value,
+ * while waiting or running. 17: a caller that is not this core, 0 to 15; then 15: a core not below cores, a register above 2, any write to
+ * the flags, or another value; then 16: a length while this core is waiting or running. */
+uint64_t slotfigures_arbiter_write(uint8_t *state, size_t state_length, uint64_t caller, uint64_t core, uint64_t reg, uint64_t value,
                                    uint64_t *answer, size_t answer_length);
 
-/* Reads a register: the answer's second place holds it, and the state stays as it is. 15: a core not below cores, or a register above 2. */
-uint64_t slotfigures_arbiter_read(uint8_t *state, size_t state_length, uint64_t core, uint64_t reg,
+/* Reads a register: the answer's second place holds it, and the state stays as it is. 17: a caller that is neither this core, 0 to 15, nor the
+ * workshop; then 15: a core not below cores, or a register above 2. */
+uint64_t slotfigures_arbiter_read(uint8_t *state, size_t state_length, uint64_t caller, uint64_t core, uint64_t reg,
                                   uint64_t *answer, size_t answer_length);
 
 /* Reads a core's interrupt line: the answer's second place holds 1 if its flags are done and its mask is 1, else 0, and the state stays as
- * it is. 15: a core not below cores. */
-uint64_t slotfigures_arbiter_line(uint8_t *state, size_t state_length, uint64_t core, uint64_t *answer, size_t answer_length);
+ * it is. 17: as for slotfigures_arbiter_read; then 15: a core not below cores. */
+uint64_t slotfigures_arbiter_line(uint8_t *state, size_t state_length, uint64_t caller, uint64_t core, uint64_t *answer, size_t answer_length);
 
 #ifdef __cplusplus
 }

@@ -1,10 +1,10 @@
 /* The five calls of the arbiter on sequences from standard input, a line each: HEX CALL CALL .., which are the state's bytes (hexadecimal,
  * small letters, - for none, at most 64) and calls on it, one after another:
- *   t                      tick
- *   r/CORE/REGISTER        read
- *   l/CORE                 line
- *   w/CORE/REGISTER/VALUE  write
- *   z/CORES/SLOT           reset
+ *   t/CALLER                      tick
+ *   r/CALLER/CORE/REGISTER        read
+ *   l/CALLER/CORE                 line
+ *   w/CALLER/CORE/REGISTER/VALUE  write
+ *   z/CALLER/CORES/SLOT           reset
  * Writes a line for each, with STATUS/A/B/HEX for each call: both places of the answer (- where the status is 2), and the bytes that it leaves,
  * or = where every byte is as before. Each call is tried on copies first, with answers of 0 to 4 places and with states one byte shorter and
  * longer; every place and byte that a call may not write is filled before it and compared after it, those behind the lent ones too. Where one
@@ -16,7 +16,7 @@
 #include <string.h>
 
 /* OUT is enough for the largest answer to each of the shortest calls of a line */
-enum { LINE = 1 << 17, OUT = LINE / 2 * 176, BYTES = 64, GUARD = 32, ANSWERS = 8 };
+enum { LINE = 1 << 17, OUT = LINE / 4 * 176, BYTES = 64, GUARD = 32, ANSWERS = 8 };
 
 /* the state, behind whose bytes stand GUARD that are filled */
 static uint8_t state[BYTES + GUARD];
@@ -24,7 +24,7 @@ static size_t length;
 
 struct call {
     char kind;
-    uint64_t number[3];
+    uint64_t number[4];
 };
 
 /* what a call leaves */
@@ -39,11 +39,11 @@ static void make(const struct call *call, size_t bytes, size_t places, struct le
     fill(to->answer, ANSWERS);
     memcpy(to->state, state, sizeof state);
     switch (call->kind) {
-    case 't': to->status = slotfigures_arbiter_tick(to->state, bytes, to->answer, places); break;
-    case 'r': to->status = slotfigures_arbiter_read(to->state, bytes, n[0], n[1], to->answer, places); break;
-    case 'l': to->status = slotfigures_arbiter_line(to->state, bytes, n[0], to->answer, places); break;
-    case 'w': to->status = slotfigures_arbiter_write(to->state, bytes, n[0], n[1], n[2], to->answer, places); break;
-    default: to->status = slotfigures_arbiter_reset(to->state, bytes, n[0], n[1], to->answer, places);
+    case 't': to->status = slotfigures_arbiter_tick(to->state, bytes, n[0], to->answer, places); break;
+    case 'r': to->status = slotfigures_arbiter_read(to->state, bytes, n[0], n[1], n[2], to->answer, places); break;
+    case 'l': to->status = slotfigures_arbiter_line(to->state, bytes, n[0], n[1], to->answer, places); break;
+    case 'w': to->status = slotfigures_arbiter_write(to->state, bytes, n[0], n[1], n[2], n[3], to->answer, places); break;
+    default: to->status = slotfigures_arbiter_reset(to->state, bytes, n[0], n[1], n[2], to->answer, places);
     }
 }
 
@@ -87,7 +87,7 @@ static char *write_left(char *to, const struct left *left) {
 /* reads a blank and a call at *s and moves *s behind them; 0, if there is none */
 static int read_call(const char **s, struct call *call) {
     static const char kinds[] = "tlrzw";
-    static const int numbers[] = {0, 1, 2, 2, 3};
+    static const int numbers[] = {1, 2, 3, 3, 4};
     const char *kind;
     int i;
     if (**s != ' ' || (*s)[1] == '\0' || !(kind = strchr(kinds, (*s)[1]))) return 0;

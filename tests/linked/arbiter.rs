@@ -1,6 +1,6 @@
 // The wrapper's Arbiter on sequences from standard input, as arbiter.c has them, a line each: HEX CALL CALL .. Writes the same line for each, or
-// 'wrong ..'. A state that is not 51 bytes long the type cannot say: its line is 'untyped'. A reset is tried as the making of a new arbiter
-// too.
+// 'wrong ..'. A state that is not 51 bytes long the type cannot say: its line is 'untyped'. A call that no handle can make is 'untyped' in its
+// line: one of a caller that has none, or that its handle has no words for. A reset is tried as the making of a new arbiter too.
 mod digits;
 
 use digits::{read_bytes, write_bytes};
@@ -16,29 +16,43 @@ fn refused(r: Refusal) -> Result<String, String> {
     }
 }
 
-// A reset, compared with a new arbiter; or what is wrong.
-fn reset(arbiter: &mut Arbiter, cores: u64, slot: u64) -> Result<Result<u64, Refusal>, String> {
-    let given = arbiter.reset(cores, slot);
-    match Arbiter::new(cores, slot) == given.map(|()| arbiter.clone()) {
-        true => Ok(given.map(|()| 0)),
-        false => Err("z: a new arbiter is otherwise".to_string()),
+// What a call gives that is made through its caller's handle; none, if that cannot make it.
+fn through(arbiter: &Arbiter, kind: &str, n: &[u64]) -> Option<Result<u64, Refusal>> {
+    let workshop = arbiter.workshop();
+    let own = |caller: &u64, core: &u64| arbiter.core(*caller).filter(|_| caller == core);
+    match (kind, n) {
+        ("t", [16]) => Some(workshop.tick().map(|()| 0)),
+        ("r", [16, core, register]) => Some(workshop.read(*core, *register)),
+        ("l", [16, core]) => Some(workshop.line(*core).map(u64::from)),
+        ("z", [16, cores, slot]) => Some(workshop.reset(*cores, *slot).map(|()| 0)),
+        ("r", [caller, core, register]) => own(caller, core).map(|c| c.read(*register)),
+        ("l", [caller, core]) => own(caller, core).map(|c| c.line().map(u64::from)),
+        ("w", [caller, core, register, value]) => {
+            own(caller, core).map(|c| c.write(*register, *value).map(|()| 0))
+        }
+        ("t", [_]) | ("z", [_, _, _]) => None,
+        _ => panic!("no call: {kind} {n:?}"),
     }
 }
 
 // STATUS/A/B/HEX of a call; or what is wrong.
-fn made(arbiter: &mut Arbiter, call: &str) -> Result<String, String> {
+fn made(arbiter: &Arbiter, call: &str) -> Result<String, String> {
     let mut items = call.split('/');
     let kind = items.next().expect("a call");
     let n: Vec<u64> = items.map(|n| n.parse().expect("a number")).collect();
+    let shown = arbiter.core(n[0]).map(|core| format!("{core:?}"));
+    if shown.is_some_and(|shown| shown != format!("Core({})", n[0])) {
+        return Err(format!(
+            "{kind}: a core's handle shows more than its number"
+        ));
+    }
     let before = arbiter.bytes();
-    let given = match (kind, n.as_slice()) {
-        ("t", []) => arbiter.tick().map(|()| 0),
-        ("r", [core, register]) => arbiter.read(*core, *register),
-        ("l", [core]) => arbiter.line(*core).map(u64::from),
-        ("w", [core, register, value]) => arbiter.write(*core, *register, *value).map(|()| 0),
-        ("z", [cores, slot]) => reset(arbiter, *cores, *slot)?,
-        _ => panic!("no call: {call}"),
+    let Some(given) = through(arbiter, kind, &n) else {
+        return Ok("untyped".to_string());
     };
+    if kind == "z" && Arbiter::new(n[1], n[2]) != given.map(|_| arbiter.clone()) {
+        return Err("z: a new arbiter is otherwise".to_string());
+    }
     let head = given.map_or_else(refused, |value| Ok(format!("0/0/{value}")))?;
     let after = arbiter.bytes();
     match after == before {
@@ -54,8 +68,8 @@ fn line(text: &str) -> String {
     let Ok(state) = state.try_into() else {
         return "untyped".to_string();
     };
-    let mut arbiter = Arbiter::from_bytes(state);
-    let made: Result<Vec<String>, String> = items.map(|call| made(&mut arbiter, call)).collect();
+    let arbiter = Arbiter::from_bytes(state);
+    let made: Result<Vec<String>, String> = items.map(|call| made(&arbiter, call)).collect();
     made.map_or_else(|what| format!("wrong {what}"), |made| made.join(" "))
 }
 

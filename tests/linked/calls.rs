@@ -195,15 +195,16 @@ fn largest_table() -> bool {
 
 // Every call of an arbiter: the last core of sixteen is done at the end of the longest period.
 fn last_core() -> Result<bool, Refusal> {
-    let mut arbiter = Arbiter::new(16, 16)?;
-    arbiter.write(15, Arbiter::MASK, 1)?;
-    arbiter.write(15, Arbiter::LENGTH, 16)?;
+    let arbiter = Arbiter::new(16, 16)?;
+    let (core, workshop) = (arbiter.core(15).expect("a core"), arbiter.workshop());
+    core.write(Arbiter::MASK, 1)?;
+    core.write(Arbiter::LENGTH, 16)?;
     for _ in 0..255 {
-        arbiter.tick()?;
+        workshop.tick()?;
     }
-    let running = arbiter.read(15, Arbiter::FLAGS)? == Arbiter::RUNNING && !arbiter.line(15)?;
-    arbiter.tick()?;
-    Ok(running && arbiter.line(15)?)
+    let running = workshop.read(15, Arbiter::FLAGS)? == Arbiter::RUNNING && !workshop.line(15)?;
+    workshop.tick()?;
+    Ok(running && core.read(Arbiter::FLAGS)? == Arbiter::DONE && core.line()?)
 }
 
 // Whether a call gives what it should in a thread with so much stack; where it ends, the program does.

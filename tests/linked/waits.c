@@ -59,10 +59,10 @@ static void try_device(unsigned o) {
     for (core = 0; core < cores; core++) {
         due[core] = clocked(o);
         if (due[core] > last) last = due[core];
-        good = good && slotfigures_arbiter_write(state, sizeof state, core, SLOTFIGURES_ARBITER_LENGTH, e, answer, 2) == 0;
+        good = good && slotfigures_arbiter_write(state, sizeof state, core, core, SLOTFIGURES_ARBITER_LENGTH, e, answer, 2) == 0;
     }
     for (tick = 1; good && tick <= last; tick++) {
-        good = slotfigures_arbiter_tick(state, sizeof state, answer, 2) == 0;
+        good = slotfigures_arbiter_tick(state, sizeof state, SLOTFIGURES_ARBITER_WORKSHOP, answer, 2) == 0;
         for (core = 0; core < cores; core++) good = good && (state[4 + 3 * core] == SLOTFIGURES_ARBITER_DONE) == (tick >= due[core]);
     }
     accesses += cores;

@@ -5,6 +5,7 @@
 //! [`figures`] and [`preview`] are to have 1 MiB of stack, the others 32 KiB. A spawned thread has 2 MiB unless
 //! `std::thread::Builder::stack_size` says otherwise; where the stack ends, the program does.
 
+use std::cell::Cell;
 use std::fmt;
 
 #[link(name = "linked", kind = "static")]
@@ -54,6 +55,7 @@ extern "C" {
     fn slotfigures_arbiter_reset(
         state: *mut u8,
         state_length: usize,
+        caller: u64,
         cores: u64,
         slot: u64,
         answer: *mut u64,
@@ -62,12 +64,14 @@ extern "C" {
     fn slotfigures_arbiter_tick(
         state: *mut u8,
         state_length: usize,
+        caller: u64,
         answer: *mut u64,
         answer_length: usize,
     ) -> u64;
     fn slotfigures_arbiter_write(
         state: *mut u8,
         state_length: usize,
+        caller: u64,
         core: u64,
         reg: u64,
         value: u64,
@@ -77,6 +81,7 @@ extern "C" {
     fn slotfigures_arbiter_read(
         state: *mut u8,
         state_length: usize,
+        caller: u64,
         core: u64,
         reg: u64,
         answer: *mut u64,
@@ -85,6 +90,7 @@ extern "C" {
     fn slotfigures_arbiter_line(
         state: *mut u8,
         state_length: usize,
+        caller: u64,
         core: u64,
         answer: *mut u64,
         answer_length: usize,
@@ -140,7 +146,8 @@ impl Task<'_> {
 /// Why nothing is given: the number, its word and its place. The numbers 1 to 10 are told of an image, and the place is a byte position or,
 /// for 7 to 10, the image's length. Of a change, 19 is told of a node that does not exist or is no plain block, and the place is the image's
 /// length; 5 also of durations out of range, and the place is that of the block's field. 15 and 16 are told of an [`Arbiter`], and the place
-/// is 0. 21 is told of a table of tasks, and the place is the index of an entry, or 0 for the table's size.
+/// is 0; 17 would be told of a call that its caller may not make, which no handle can say. 21 is told of a table of tasks, and the place is
+/// the index of an entry, or 0 for the table's size.
 #[derive(Clone, Copy, Debug, PartialEq, Eq)]
 pub struct Refusal {
     pub number: u64,
@@ -163,6 +170,7 @@ fn word(number: u64) -> &'static str {
         10 => "table",
         15 => "register",
         16 => "busy",
+        17 => "forbidden",
         19 => "block",
         21 => "task",
         _ => unreachable!("no refusal has the number {number}"),
@@ -310,15 +318,21 @@ pub fn finishes(tasks: &[Task]) -> Result<[u64; MOST_TASKS], Refusal> {
 /// of the last accepted reset, or of the bytes that it was made of; the offset moves on by 1 with each tick, from the period (cores times slot)
 /// less 1 to 0.
 ///
+/// Its owner keeps it and gives out handles, which make every call: a [`Core`] reads and writes its own registers and reads its own line, the
+/// [`Workshop`] reads everything, ticks and resets. Those of one arbiter may be held side by side; none leads to another, or to the arbiter. Each
+/// names its own caller and can say no call that this caller may not make, so 17 is never answered. Handles stay in the arbiter's thread: one
+/// call is made at a time.
+///
 /// Proved of states reached by calls from a reset: a length written at offset o is done after wait + length ticks and no sooner, if no reset
 /// comes between, where the wait is that of an access of this length from o, as both figures have it; and no two cores have running set.
 /// Proved of every state: with a core's own writes and all ticks and resets equal and in the same order, the other cores' writes never alter
-/// its registers or line.
+/// its registers or line. And from one accepted reset on, with a core's own calls and the workshop's ticks and resets equal and in the same
+/// order, every answer to that core is equal, whatever the state was before that reset.
 ///
 /// A call that is refused changes nothing. All 64 bits of the numbers given count.
 #[derive(Clone, Debug, PartialEq, Eq)]
 pub struct Arbiter {
-    state: [u8; Arbiter::BYTES],
+    state: Cell<[u8; Arbiter::BYTES]>,
 }
 
 impl Arbiter {
@@ -339,88 +353,73 @@ impl Arbiter {
     /// Flags: its access has run; until the next length is written, or a reset.
     pub const DONE: u64 = 4;
 
-    /// An arbiter after a reset; or why that is refused, as by [`Self::reset`].
+    // The caller that is no core; those below it are.
+    const WORKSHOP: u64 = 16;
+
+    /// An arbiter after a reset; or why that is refused, as by [`Workshop::reset`].
     pub fn new(cores: u64, slot: u64) -> Result<Self, Refusal> {
-        let mut arbiter = Self::from_bytes([0; Self::BYTES]);
-        arbiter.reset(cores, slot)?;
+        let arbiter = Self::from_bytes([0; Self::BYTES]);
+        arbiter.workshop().reset(cores, slot)?;
         Ok(arbiter)
     }
 
     /// An arbiter with the state of these bytes: cores, slot, offset, then length, flags and mask of cores 0 to 15. Nothing is judged here.
     /// Until a reset is accepted, every other call refuses a state (15) of which a number, those of unused cores counted, is out of range: of
-    /// cores and slot as in [`Self::reset`], an offset not below the period, a length above the slot, flags that are not 0, 1, 2 or 4, a mask
-    /// above 1, or a length of 0 beside waiting or running.
+    /// cores and slot as in [`Workshop::reset`], an offset not below the period, a length above the slot, flags that are not 0, 1, 2 or 4, a
+    /// mask above 1, or a length of 0 beside waiting or running.
     pub fn from_bytes(state: [u8; Self::BYTES]) -> Self {
-        Arbiter { state }
+        Arbiter {
+            state: Cell::new(state),
+        }
     }
 
     /// The bytes of the state, in the order of [`Self::from_bytes`].
     pub fn bytes(&self) -> [u8; Self::BYTES] {
-        self.state
+        self.state.get()
     }
 
-    // One call on the state: the second place of its answer.
-    fn call(&mut self, call: impl FnOnce(&mut [u8], &mut [u64]) -> u64) -> Result<u64, Refusal> {
-        told(|answer| call(&mut self.state, answer)).map(|[_, value, _]| value)
+    /// The handle of a core, 0 to 15, whatever the bus: one that the bus does not use may call too, and is refused (15). There is none for a
+    /// number above 15.
+    pub fn core(&self, number: u64) -> Option<Core<'_>> {
+        (number < Self::WORKSHOP).then_some(Core(Caller {
+            arbiter: self,
+            number,
+        }))
     }
 
-    /// Sets cores and slot, and all else to 0: the offset and every register. Refused (15), whatever the state: cores not 2 to 16, a slot not
-    /// 1 to 128, or cores times slot above 256.
-    pub fn reset(&mut self, cores: u64, slot: u64) -> Result<(), Refusal> {
+    /// The handle of the workshop.
+    pub fn workshop(&self) -> Workshop<'_> {
+        Workshop(Caller {
+            arbiter: self,
+            number: Self::WORKSHOP,
+        })
+    }
+}
+
+// Who calls, by number: every call of an arbiter names it.
+#[derive(Clone, Copy, Debug)]
+struct Caller<'a> {
+    arbiter: &'a Arbiter,
+    number: u64,
+}
+
+impl Caller<'_> {
+    // One call on the state, which is lent to it with this caller's number: the second place of its answer.
+    fn call(&self, call: impl FnOnce(&mut [u8], u64, &mut [u64]) -> u64) -> Result<u64, Refusal> {
+        let mut state = self.arbiter.state.get();
+        let given = told(|answer| call(&mut state, self.number, answer));
+        self.arbiter.state.set(state);
+        given.map(|[_, value, _]| value)
+    }
+
+    // What a core's register holds.
+    fn read(&self, core: u64, register: u64) -> Result<u64, Refusal> {
         // here and below, the pointers and lengths are those of a state and an answer that live through the call and do not overlap
-        self.call(|state, answer| unsafe {
-            slotfigures_arbiter_reset(
-                state.as_mut_ptr(),
-                state.len(),
-                cores,
-                slot,
-                answer.as_mut_ptr(),
-                answer.len(),
-            )
-        })
-        .map(|_| ())
-    }
-
-    /// Passes a cycle: a waiting core whose slot still holds its whole length turns from waiting to running; each running length, that one
-    /// too, falls by 1, and at 0 running gives way to done; then the offset moves on. Refused (15): a state as in [`Self::from_bytes`].
-    pub fn tick(&mut self) -> Result<(), Refusal> {
-        self.call(|state, answer| unsafe {
-            slotfigures_arbiter_tick(
-                state.as_mut_ptr(),
-                state.len(),
-                answer.as_mut_ptr(),
-                answer.len(),
-            )
-        })
-        .map(|_| ())
-    }
-
-    /// Writes a register. A length is 1 to the slot: it clears done and sets waiting, and the mask stays. A mask is 0 or 1, and may be written
-    /// while waiting or running. Refused: a state as in [`Self::from_bytes`], a core not below the number of cores, a register above 2, any
-    /// write to the flags, or another value (15); then a length while this core is waiting or running (16).
-    pub fn write(&mut self, core: u64, register: u64, value: u64) -> Result<(), Refusal> {
-        self.call(|state, answer| unsafe {
-            slotfigures_arbiter_write(
-                state.as_mut_ptr(),
-                state.len(),
-                core,
-                register,
-                value,
-                answer.as_mut_ptr(),
-                answer.len(),
-            )
-        })
-        .map(|_| ())
-    }
-
-    /// What a register holds. Refused (15): a state as in [`Self::from_bytes`], a core not below the number of cores, or a register above 2.
-    pub fn read(&self, core: u64, register: u64) -> Result<u64, Refusal> {
-        // the call takes a state that may be written, and leaves it: it is lent a copy
-        let mut copy = self.clone();
-        copy.call(|state, answer| unsafe {
+        self.call(|state, caller, answer| unsafe {
             slotfigures_arbiter_read(
                 state.as_mut_ptr(),
                 state.len(),
+                caller,
                 core,
                 register,
                 answer.as_mut_ptr(),
@@ -429,20 +428,114 @@ impl Arbiter {
         })
     }
 
-    /// Whether a core's interrupt line is set: its flags are done and its mask is 1. Refused (15): a state as in [`Self::from_bytes`], or a
-    /// core not below the number of cores.
-    pub fn line(&self, core: u64) -> Result<bool, Refusal> {
-        // as for `read`
-        let mut copy = self.clone();
-        copy.call(|state, answer| unsafe {
+    // Whether a core's line is set.
+    fn line(&self, core: u64) -> Result<bool, Refusal> {
+        self.call(|state, caller, answer| unsafe {
             slotfigures_arbiter_line(
                 state.as_mut_ptr(),
                 state.len(),
+                caller,
                 core,
                 answer.as_mut_ptr(),
                 answer.len(),
             )
         })
         .map(|line| line == 1)
+    }
+}
+
+/// A core's handle of an [`Arbiter`]: it reads and writes this core's registers and reads its line, and no other's. Refused by each of its calls
+/// (15): a state as in [`Arbiter::from_bytes`], or a core not below the number of cores.
+#[derive(Clone, Copy)]
+pub struct Core<'a>(Caller<'a>);
+
+impl Core<'_> {
+    /// Writes a register. A length is 1 to the slot: it clears done and sets waiting, and the mask stays. A mask is 0 or 1, and may be written
+    /// while waiting or running. Refused, beside what is said above: a register above 2, any write to the flags, or another value (15); then a
+    /// length while this core is waiting or running (16).
+    pub fn write(&self, register: u64, value: u64) -> Result<(), Refusal> {
+        self.0
+            .call(|state, caller, answer| unsafe {
+                slotfigures_arbiter_write(
+                    state.as_mut_ptr(),
+                    state.len(),
+                    caller,
+                    caller,
+                    register,
+                    value,
+                    answer.as_mut_ptr(),
+                    answer.len(),
+                )
+            })
+            .map(|_| ())
+    }
+
+    /// What a register holds. Refused, beside what is said above: a register above 2 (15).
+    pub fn read(&self, register: u64) -> Result<u64, Refusal> {
+        self.0.read(self.0.number, register)
+    }
+
+    /// Whether the interrupt line is set: the flags are done and the mask is 1.
+    pub fn line(&self) -> Result<bool, Refusal> {
+        self.0.line(self.0.number)
+    }
+}
+
+// The number alone: of the state a core reads its registers, and no more.
+impl fmt::Debug for Core<'_> {
+    fn fmt(&self, f: &mut fmt::Formatter<'_>) -> fmt::Result {
+        f.debug_tuple("Core").field(&self.0.number).finish()
+    }
+}
+
+/// The workshop's handle of an [`Arbiter`]: it reads the registers and lines of every core, ticks and resets, and writes no register.
+#[derive(Clone, Copy, Debug)]
+pub struct Workshop<'a>(Caller<'a>);
+
+impl Workshop<'_> {
+    /// Sets cores and slot, and all else to 0: the offset and every register. Refused (15), whatever the state: cores not 2 to 16, a slot not
+    /// 1 to 128, or cores times slot above 256.
+    pub fn reset(&self, cores: u64, slot: u64) -> Result<(), Refusal> {
+        self.0
+            .call(|state, caller, answer| unsafe {
+                slotfigures_arbiter_reset(
+                    state.as_mut_ptr(),
+                    state.len(),
+                    caller,
+                    cores,
+                    slot,
+                    answer.as_mut_ptr(),
+                    answer.len(),
+                )
+            })
+            .map(|_| ())
+    }
+
+    /// Passes a cycle: a waiting core whose slot still holds its whole length turns from waiting to running; each running length, that one
+    /// too, falls by 1, and at 0 running gives way to done; then the offset moves on. Refused (15): a state as in [`Arbiter::from_bytes`].
+    pub fn tick(&self) -> Result<(), Refusal> {
+        self.0
+            .call(|state, caller, answer| unsafe {
+                slotfigures_arbiter_tick(
+                    state.as_mut_ptr(),
+                    state.len(),
+                    caller,
+                    answer.as_mut_ptr(),
+                    answer.len(),
+                )
+            })
+            .map(|_| ())
+    }
+
+    /// What a core's register holds. Refused (15): a state as in [`Arbiter::from_bytes`], a core not below the number of cores, or a register
+    /// above 2.
+    pub fn read(&self, core: u64, register: u64) -> Result<u64, Refusal> {
+        self.0.read(core, register)
+    }
+
+    /// Whether a core's interrupt line is set, as by [`Core::line`]. Refused (15): a state as in [`Arbiter::from_bytes`], or a core not below the
+    /// number of cores.
+    pub fn line(&self, core: u64) -> Result<bool, Refusal> {
+        self.0.line(core)
     }
 }
