@@ -12,3 +12,4 @@ pub mod Unseen
 pub mod Timing
 mod Worked
 pub mod Lent
+pub mod Walking

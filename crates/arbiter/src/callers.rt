@@ -2,6 +2,7 @@
 ghost use mathlib.Core.Path.{_≡_};
 ghost use mathlib.Core.Bool.{_||_};
 ghost use Rattle.arbiter.specs.Callers.{isOwn, isWorkshop, hasRight, outcomeBy};
+ghost use Rattle.arbiter.specs.declared.Call.the-variants.{Read, Line, Write, Tick, Reset};
 use crate::Arbiter;
 use crate::Call;
 use crate::Outcome;
@@ -53,4 +54,35 @@ pub fn asked(s: Arbiter, caller: usize, c: Call) -> Outcome
         return refuse(Refusal::Forbidden, s);
     }
     on(s, c)
+}
+
+// Each call of its own, for the entry of that name.
+pub fn read_by(s: Arbiter, caller: usize, core: usize, register: usize) -> Outcome
+    ensures { λ o. ⌜ o ≡ outcomeBy caller (Read core register) s ⌝ }
+{
+    asked(s, caller, Call::Read(core, register))
+}
+
+pub fn line_by(s: Arbiter, caller: usize, core: usize) -> Outcome
+    ensures { λ o. ⌜ o ≡ outcomeBy caller (Line core) s ⌝ }
+{
+    asked(s, caller, Call::Line(core))
+}
+
+pub fn write_by(s: Arbiter, caller: usize, core: usize, register: usize, value: usize) -> Outcome
+    ensures { λ o. ⌜ o ≡ outcomeBy caller (Write core register value) s ⌝ }
+{
+    asked(s, caller, Call::Write(core, register, value))
+}
+
+pub fn tick_by(s: Arbiter, caller: usize) -> Outcome
+    ensures { λ o. ⌜ o ≡ outcomeBy caller Tick s ⌝ }
+{
+    asked(s, caller, Call::Tick)
+}
+
+pub fn reset_by(s: Arbiter, caller: usize, cores: usize, slot: usize) -> Outcome
+    ensures { λ o. ⌜ o ≡ outcomeBy caller (Reset cores slot) s ⌝ }
+{
+    asked(s, caller, Call::Reset(cores, slot))
 }

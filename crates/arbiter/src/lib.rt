@@ -18,8 +18,13 @@
 // and resets alone (`same-answers` in proofs/Unseen.antt).
 //
 // src/: states (what a state may hold), ticks, calls (each call with the state by value), callers (who may make it).
+ghost use Rattle.arbiter.specs.declared.Call.the-variants.{Read, Line, Write, Tick, Reset};
 ghost use Rattle.arbiter.specs.Promise.{Answers};
-use crate::callers::asked;
+use crate::callers::line_by;
+use crate::callers::read_by;
+use crate::callers::reset_by;
+use crate::callers::tick_by;
+use crate::callers::write_by;
 use image::Refusal;
 
 pub mod callers;
@@ -67,11 +72,47 @@ pub struct Outcome {
     pub reply: Reply,
 }
 
-// A caller's call: a core's number or 16 for the workshop, and what it asks.
-pub fn ask(a: &mut Arbiter, caller: usize, c: Call) -> Reply
-    ensures { λ r. ⌜ Answers caller c (now (a .entry)) (now (a .exit)) r ⌝ }
+// A core's register.
+pub fn read(a: &mut Arbiter, caller: usize, core: usize, register: usize) -> Reply
+    ensures { λ r. ⌜ Answers caller (Read core register) (now (a .entry)) (now (a .exit)) r ⌝ }
 {
-    let o = asked(*a, caller, c);
+    let o = read_by(*a, caller, core, register);
+    *a = o.state;
+    o.reply
+}
+
+// A core's interrupt line.
+pub fn line(a: &mut Arbiter, caller: usize, core: usize) -> Reply
+    ensures { λ r. ⌜ Answers caller (Line core) (now (a .entry)) (now (a .exit)) r ⌝ }
+{
+    let o = line_by(*a, caller, core);
+    *a = o.state;
+    o.reply
+}
+
+// A value to a core's register.
+pub fn write(a: &mut Arbiter, caller: usize, core: usize, register: usize, value: usize) -> Reply
+    ensures { λ r. ⌜ Answers caller (Write core register value) (now (a .entry)) (now (a .exit)) r ⌝ }
+{
+    let o = write_by(*a, caller, core, register, value);
+    *a = o.state;
+    o.reply
+}
+
+// One cycle of the bus.
+pub fn tick(a: &mut Arbiter, caller: usize) -> Reply
+    ensures { λ r. ⌜ Answers caller Tick (now (a .entry)) (now (a .exit)) r ⌝ }
+{
+    let o = tick_by(*a, caller);
+    *a = o.state;
+    o.reply
+}
+
+// A bus of this many cores and this slot length, with all registers and the offset clear.
+pub fn reset(a: &mut Arbiter, caller: usize, cores: usize, slot: usize) -> Reply
+    ensures { λ r. ⌜ Answers caller (Reset cores slot) (now (a .entry)) (now (a .exit)) r ⌝ }
+{
+    let o = reset_by(*a, caller, cores, slot);
     *a = o.state;
     o.reply
 }
