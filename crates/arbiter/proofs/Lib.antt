@@ -7,9 +7,5 @@ pub mod Reasons
 pub mod Kept
 pub mod Apart
 pub mod Reach
-pub mod Rights
-pub mod Unseen
 pub mod Timing
 mod Worked
-pub mod Lent
-pub mod Walking

@@ -1,8 +1,8 @@
 -- A call is refused if and only if the condition for it holds, and with 15 before 16.
-use mathlib.Core.Path.{_≡_, refl, sym, _∙_, ap, subst}
-use mathlib.Core.Bool.{Bool, true, false, cond, _&&_, false≢true}
+use mathlib.Core.Path.{_≡_, refl, sym, _∙_, subst}
+use mathlib.Core.Bool.{Bool, true, false, _&&_, false≢true}
 use native.Mathlib.Omega.{arith}
-use borrow.Author.Tests.{leb-true, leb-false, ltb-true, ltb-false, lt-leb, le-leb, lt-ltb, le-ltb, ne-eqb, eq-eqb, eqb-true}
+use borrow.Author.Tests.{ltb-true, lt-leb, le-leb, lt-ltb, ne-eqb, eq-eqb, eqb-true}
 use lib.Dec.{leb, ltb, eqb}
 use Prim.Native.Nat.{ℕ, zero, suc, _≤_, _<_}
 use Rattle.runs.proofs.Cases.{either, split}
@@ -12,10 +12,10 @@ use Rattle.arbiter.specs.declared.Arbiter.{Arbiter}
 use Rattle.arbiter.specs.declared.Outcome.{Outcome}
 use Rattle.arbiter.specs.declared.Reply.{Reply}
 use Rattle.arbiter.specs.declared.Reply.the-variants.{Accepted, Value, Refused}
-use Rattle.arbiter.specs.Device.{sized, formed, usable, registersOf, withRegisters, registerAt, lineOf, writable, busy, cleared, ticked}
+use Rattle.arbiter.specs.Device.{sized, formed, usable, registersOf, registerAt, lineOf, writable, busy}
 use Rattle.arbiter.specs.declared.Call.{Call}
 use Rattle.arbiter.specs.declared.Call.the-variants.{Read, Line, Write, Tick, Reset}
-use Rattle.arbiter.specs.Calls.{outcome, written, tell, leave, refuse, after, answer}
+use Rattle.arbiter.specs.Calls.{outcome, written, refuse, after, answer}
 use Rattle.arbiter.specs.Conditions.{Misnamed, read-core, read-register, line-core, write-core, write-register, write-flags, no-length, length-above, mask-above, reset-size, AsksState, RefusedFor, misnamed, malformed, still-busy}
 use Rattle.arbiter.proofs.Tests.{and-left, and-right, and-both, cond-of}
 use Rattle.arbiter.proofs.Formed.{sized-true, true-sized, well-formed, formed-well, busy-true, true-busy, usable-formed, usable-core}

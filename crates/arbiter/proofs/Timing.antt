@@ -5,13 +5,13 @@ use mathlib.Core.Bool.{Bool, true, false, cond, _&&_, _||_, false≢true}
 use mathlib.Core.List.{List, [], _∷_, _++_}
 use native.Mathlib.Nat.{mod-eq-of-lt, mod-add-mod, add-zero}
 use native.Mathlib.Omega.{arith}
-use borrow.Author.Tests.{leb-true, le-leb, lt-leb, eq-eqb, ltb-true}
+use borrow.Author.Tests.{leb-true, le-leb, lt-leb, eq-eqb}
 use lib.Dec.{leb, eqb}
 use lib.ListN.{length}
 use lib.Seq.{getD-set-same}
 use Prim.Native.Nat.{ℕ, _+_, _-_, _*_, _%_, _≤_, _<_}
 use Rattle.runs.specs.Slots.{Slots, Sound, periodOf, inSlot, equal, equation7}
-use Rattle.runs.specs.Clock.{State, on, offsets, Access}
+use Rattle.runs.specs.Clock.{State, on, offsets}
 use Rattle.runs.proofs.Accesses.{access-only, access-ends, pass-is}
 use Rattle.runs.proofs.OffsetsLaws.{offsets-turn}
 use Rattle.runs.proofs.SlotsLaws.{equation7-is, equal-lawful}
@@ -27,7 +27,7 @@ use Rattle.arbiter.specs.Device.{sized, formed, usable, clear, registers
 use Rattle.arbiter.specs.declared.Call.{Call}
 use Rattle.arbiter.specs.declared.Call.the-variants.{Read, Line, Write, Tick, Reset}
 use Rattle.arbiter.specs.Calls.{outcome, after, answer, afterAll, written, refuse, leave}
-use Rattle.arbiter.specs.Sequences.{Reached, fresh, next, resets, NoReset, none, more, writesLength, NoLength, oneIfTick, ticks, Since, DoneAfter, DoneOnTime, AsTheClock}
+use Rattle.arbiter.specs.Sequences.{Reached, fresh, next, resets, NoReset, none, more, writesLength, NoLength, oneIfTick, ticks, Since, DoneOnTime, AsTheClock}
 use Rattle.arbiter.proofs.Tests.{and-left, and-right, and-both, cond-of, same}
 use Rattle.arbiter.proofs.Formed.{formed-true, usable-core}
 use Rattle.arbiter.proofs.Steps.{stepped-is, ticked-formed, cleared-formed}

@@ -12,13 +12,13 @@ use Rattle.image.specs.declared.Refusal.{Refusal}
 use Rattle.image.proofs.Numbers.{both}
 use Rattle.arbiter.specs.declared.Call.{Call}
 use Rattle.arbiter.specs.Calls.{after, answer}
-use Rattle.arbiter.specs.Callers.{outcomeBy, afterBy, answerBy, Asked, afterAllBy, answersTo, concerningBy}
+use Rattle.callers.specs.Callers.{outcomeBy, afterBy, answerBy, afterAllBy, answersTo, concerningBy}
 use Rattle.arbiter.specs.Device.{sized}
-use Rattle.arbiter.specs.Conditions.{RefusedBy, resets}
+use Rattle.callers.specs.Conditions.{RefusedBy, resets}
 use Rattle.arbiter.specs.Sequences.{Reached, fresh}
 use Rattle.arbiter.specs.declared.Call.the-variants.{Reset}
-use Rattle.arbiter.proofs.Rights.{promised, not-refused, sixteen-by, if-right, with-right, reached-by}
-use Rattle.arbiter.proofs.Unseen.{same-answers}
+use Rattle.callers.proofs.Rights.{promised, not-refused, sixteen-by, if-right, with-right, reached-by}
+use Rattle.callers.proofs.Unseen.{same-answers}
 use Rattle.runs.proofs.Cases.{either}
 use Rattle.lent.proofs.Packing.{state-again, there-and-back, bytes-length, cores-length}
 use Rattle.lent.specs.Bytes.{bytesOf, stateOf}

@@ -13,8 +13,8 @@ use Rattle.image.specs.Judged.{numberOf}
 use Rattle.image.specs.declared.Refusal.{Refusal}
 use Rattle.arbiter.specs.declared.Call.{Call}
 use Rattle.arbiter.specs.Calls.{after, answer}
-use Rattle.arbiter.specs.Callers.{outcomeBy, Asked}
-use Rattle.arbiter.specs.Conditions.{RefusedBy}
+use Rattle.callers.specs.Callers.{outcomeBy, Asked}
+use Rattle.callers.specs.Conditions.{RefusedBy}
 use Rattle.lent.specs.Bytes.{bytesOf, stateOf}
 use Rattle.arbiter.specs.declared.Outcome.{Outcome}
 use Rattle.arbiter.specs.declared.Reply.{Reply}

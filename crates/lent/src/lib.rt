@@ -105,6 +105,6 @@ pub fn call(state: &mut [u8], answer: &mut [u64], caller: usize, c: Call) -> u64
     if !has_room(state, answer) {
         return SHORT;
     }
-    let o = arbiter::callers::asked(state_of(state), caller, c);
+    let o = callers::asked(state_of(state), caller, c);
     conclude(state, answer, o)
 }
