@@ -1,4 +1,4 @@
-//! Compares a program that makes calls on an arbiter with the second reading of change request W7 in device.rs.
+//! Compares a program that makes calls on an arbiter with the second reading of change requests W7 and W8 in device.rs.
 //!
 //! arbiter [--seed N] [--sequences N] [--threads N] [--stop-after N] [PROGRAM [WORDS...]]
 //!
@@ -22,6 +22,7 @@ mod image;
 mod report;
 
 use arbiter_generate::{Case, Law};
+use arbiter_laws::Both;
 use device::{Found, Refusal, Sequence};
 use report::{Failure, Options, Tests};
 use std::collections::BTreeMap;
@@ -78,6 +79,10 @@ fn perform(number: usize, case: &Case, line: &str, summary: &Mutex<Summary>) {
 fn try_law(number: usize, before: Option<(&Case, &str)>, (case, line): (&Case, &str), summary: &Mutex<Summary>) {
     let steps = |case: &Case, line: &str| arbiter_laws::steps(&case.sequence, line);
     let unread = || Some("the line cannot be read".to_string());
+    let of_pair = |otherwise: &dyn Fn(Both) -> Option<String>| {
+        let both = before.and_then(|(other, line)| Some((other, steps(other, line)?))).zip(steps(case, line));
+        both.map_or_else(unread, |((other, first), second)| otherwise([(&other.sequence, &first), (&case.sequence, &second)]))
+    };
     let (category, otherwise) = match case.law {
         Law::Nothing => return,
         Law::Reached => {
@@ -85,13 +90,9 @@ fn try_law(number: usize, before: Option<(&Case, &str)>, (case, line): (&Case, &
                 |steps: Vec<_>| arbiter_laws::untimely(&case.sequence, &steps).or_else(|| arbiter_laws::crowded(&steps));
             ("reached states", steps(case, line).map_or_else(unread, otherwise))
         }
-        Law::Undisturbed(core) => {
-            let both = before.and_then(|(other, line)| Some((other, steps(other, line)?))).zip(steps(case, line));
-            let disturbed = |((other, first), second): ((&Case, Vec<_>), Vec<_>)| {
-                arbiter_laws::disturbed(core, [(&other.sequence, &first[..]), (&case.sequence, &second[..])])
-            };
-            ("other cores' writes", both.map_or_else(unread, disturbed))
-        }
+        Law::Undisturbed(core) => ("other cores' writes", of_pair(&|both| arbiter_laws::disturbed(core, both))),
+        Law::Equal(core) => ("answers to a core", of_pair(&|both| arbiter_laws::unequal(core, both))),
+        Law::Led => ("forbidden calls", of_pair(&arbiter_laws::led_elsewhere)),
     };
     let failed = otherwise.map(|got| Failure {
         by_program: true,
@@ -105,7 +106,7 @@ fn try_law(number: usize, before: Option<(&Case, &str)>, (case, line): (&Case, &
 
 fn main() {
     let threads = std::thread::available_parallelism().map_or(2, |number| number.get()).min(8) as u64;
-    let numbers = [("--seed", 1), ("--sequences", 4_000), ("--threads", threads), ("--stop-after", u64::MAX)];
+    let numbers = [("--seed", 1), ("--sequences", 6_000), ("--threads", threads), ("--stop-after", u64::MAX)];
     let options = Options::new(&numbers, "target/compare/arbiter-linked");
     let (seed, threads) = (options.number("--seed"), options.size("--threads").max(1));
     let begun = Instant::now();
@@ -131,15 +132,17 @@ fn main() {
 
     let mut summary = summary.into_inner().unwrap_or_else(|broken| broken.into_inner());
     summary.tests.show(&format!("seed {seed}, {threads} threads, {:.1} s", begun.elapsed().as_secs_f64()));
-    let busy = summary.refused.remove(&Refusal::Busy).unwrap_or(0);
-    let refused: usize = summary.refused.values().sum();
-    println!("sequences: {}, calls: {}", summary.sequences, summary.done + refused + busy + summary.length);
+    let with = |number| summary.refused.iter().filter(move |(kind, _)| kind.number() == number);
+    let [register, busy, forbidden] = [15, 16, 17].map(|number| with(number).map(|(_, all)| all).sum::<usize>());
+    let calls = summary.done + register + busy + forbidden + summary.length;
+    println!("sequences: {}, calls: {calls}", summary.sequences);
     println!("calls done: {}, accesses that came to done: {}", summary.done, summary.accesses);
-    let kinds: Vec<String> = summary.refused.iter().map(|(kind, all)| format!("{kind:?} {all}").to_lowercase()).collect();
-    println!("calls refused with 15: {refused} ({}), with 16: {busy}; status 2: {}", kinds.join(", "), summary.length);
+    let kinds: Vec<String> = with(15).map(|(kind, all)| format!("{kind:?} {all}").to_lowercase()).collect();
+    let kinds = kinds.join(", ");
+    println!("calls refused with 15: {register} ({kinds}), with 16: {busy}, with 17: {forbidden}; status 2: {}", summary.length);
     // every answer and every kind of refusal was met, and accesses came to done
-    let each_kind = summary.refused.len() == 6 && summary.refused.values().all(|&all| all >= 500);
-    let met = each_kind && busy.min(summary.length) >= 500 && summary.accesses >= 5_000;
+    let each_kind = summary.refused.len() == 8 && summary.refused.values().all(|&all| all >= 500);
+    let met = each_kind && summary.length >= 500 && summary.accesses >= 5_000;
     let planned = all.iter().map(|case| case.sequence.calls.len() + usize::from(case.law != Law::Nothing)).sum::<usize>();
     summary.tests.close(planned + batches.len(), &[(met, "too few calls of some kind")], LEAST_PASSED);
 }

@@ -1,8 +1,9 @@
-//! Sequences of calls written by hand, with what has to be answered: change request W7, sentence by sentence.
+//! Sequences of calls written by hand, with what has to be answered: change requests W7 and W8, sentence by sentence.
 
 use crate::arbiter_generate::{Law, Sequences};
-use crate::device::{Bus, Call, Sequence, BYTES, CORES};
+use crate::device::{Asked, Bus, Call, Sequence, BYTES, CORES, WORKSHOP};
 use crate::generate::hexadecimal;
+use std::collections::BTreeSet;
 
 const LARGEST: u64 = u64::MAX;
 /// What more bits than a byte, two bytes .. hold of it adds to a number.
@@ -10,22 +11,27 @@ pub const ABOVE: [u64; 4] = [1 << 8, 1 << 16, 1 << 32, 1 << 63];
 
 const REFUSED: &str = "1/15/0/=";
 const BUSY: &str = "1/16/0/=";
+const FORBIDDEN: &str = "1/17/0/=";
 const SHORT: &str = "2/-/-/=";
 
+// Calls by those whose they are: a core's registers and line by that core, the others by the workshop.
+
+pub const TICK: Call = Call { caller: WORKSHOP, asked: Asked::Tick };
+
 pub fn read(core: u64, register: u64) -> Call {
-    Call::Read { core, register }
+    Call { caller: core, asked: Asked::Read { core, register } }
 }
 
 pub fn line(core: u64) -> Call {
-    Call::Line { core }
+    Call { caller: core, asked: Asked::Line { core } }
 }
 
 pub fn write(core: u64, register: u64, value: u64) -> Call {
-    Call::Write { core, register, value }
+    Call { caller: core, asked: Asked::Write { core, register, value } }
 }
 
 pub fn reset(cores: u64, slot: u64) -> Call {
-    Call::Reset { cores, slot }
+    Call { caller: WORKSHOP, asked: Asked::Reset { cores, slot } }
 }
 
 /// A state's bytes, with the registers of some cores; those of the others are 0.
@@ -49,7 +55,7 @@ fn value(value: u64) -> String {
 }
 
 /// A sequence of calls, each with its answer.
-#[derive(Default)]
+#[derive(Clone, Default)]
 struct Script {
     calls: Vec<Call>,
     items: Vec<String>,
@@ -81,32 +87,36 @@ fn accesses(sequences: &mut Sequences, core: u8, offset: u8, lengths: &[(u8, u8)
     let with = |offset: u8, length: u8, flags: u8| state([2, 5, offset % 10], &[(core.into(), [length, flags, 1])]);
     script.then(reset(2, 5), left(&state([2, 5, 0], &[])));
     script.then(write(number, 2, 1), left(&with(0, 0, 0)));
+    // by the core and by the workshop
+    let both = |script: &mut Script, call: Call, item: u64| {
+        [number, WORKSHOP].into_iter().for_each(|caller| script.then(call.by(caller), value(item)));
+    };
     let (mut now, mut flags) = (0, 0);
     for _ in 0..offset {
         now += 1;
-        script.then(Call::Tick, left(&with(now, 0, flags)));
+        script.then(TICK, left(&with(now, 0, flags)));
     }
     for &(length, wait) in lengths {
         script.then(write(number, 0, length.into()), left(&with(now, length, 1)));
         for _ in 0..wait {
             now += 1;
-            script.then(Call::Tick, left(&with(now, length, 1)));
-            script.then(line(number), value(0));
+            script.then(TICK, left(&with(now, length, 1)));
+            both(&mut script, line(number), 0);
         }
         for cycles_left in (0..length).rev() {
             now += 1;
             flags = if cycles_left == 0 { 4 } else { 2 };
-            script.then(Call::Tick, left(&with(now, cycles_left, flags)));
-            script.then(read(number, 0), value(cycles_left.into()));
-            script.then(read(number, 1), value(flags.into()));
-            script.then(line(number), value(u64::from(flags == 4)));
+            script.then(TICK, left(&with(now, cycles_left, flags)));
+            both(&mut script, read(number, 0), cycles_left.into());
+            both(&mut script, read(number, 1), flags.into());
+            both(&mut script, line(number), u64::from(flags == 4));
         }
     }
     // it stays done until the next length, over a period and more
     for _ in 0..12 {
         now += 1;
-        script.then(Call::Tick, left(&with(now, 0, 4)));
-        script.then(line(number), value(1));
+        script.then(TICK, left(&with(now, 0, 4)));
+        both(&mut script, line(number), 1);
     }
     script.add(sequences, "worked waits", &[0xff; BYTES]);
 }
@@ -131,7 +141,7 @@ pub fn worked(sequences: &mut Sequences) {
         let mut script = Script::default();
         for (first, digits) in [(reset(2, 5), before), (write(0, 0, 2), after)] {
             for (place, digits) in digits.iter().enumerate() {
-                let call = if place == 0 { first.clone() } else { Call::Tick };
+                let call = if place == 0 { first } else { TICK };
                 script.then(call, format!("0/0/0/{digits:0<102}"));
             }
         }
@@ -171,7 +181,7 @@ pub fn every_wait(sequences: &mut Sequences) {
             for core in [0, 1, cores / 2, cores - 1] {
                 for length in below(slot).into_iter().map(|less| less + 1) {
                     let mut calls = vec![write(core, 0, length)];
-                    calls.resize(2 + (bus.wait(core, offset, length) + length) as usize, Call::Tick);
+                    calls.resize(2 + (bus.wait(core, offset, length) + length) as usize, TICK);
                     let state = state([cores as u8, slot as u8, offset as u8], &[]);
                     sequences.add("every wait", Sequence { state, calls }, None, Law::Reached);
                 }
@@ -233,26 +243,78 @@ fn written(start: &[u8], core: usize, register: u64) -> String {
     }
 }
 
-/// Registers and cores on both sides of every limit, and what fewer bits would make of them.
+/// Registers and cores on both sides of every limit, and what fewer bits would make of them; by the core and by the workshop.
 pub fn numbers(sequences: &mut Sequences) {
-    let cores: Vec<(usize, [u8; 3])> = (0..CORES).map(|core| (core, different(core))).collect();
     let mut registers: Vec<u64> = [0, 1, 2].into_iter().flat_map(with_bits_above).collect();
     registers.extend([3, 4, 127, 128, 255, LARGEST]);
     for (number, slot) in [(2u8, 5u8), (3, 85), (8, 32), (15, 17), (16, 16)] {
-        let start = state([number, slot, 1], &cores);
         let near = [0, 1, 2, number - 1, number, number + 1, 14, 15, 16, 17, 31, 32, 255];
         for core in near.iter().flat_map(|&near| with_bits_above(near.into())).chain([LARGEST]) {
-            let used = core < number.into();
-            let own = different(core as usize % CORES);
-            let mut one = |call: Call, item: String| {
-                single(sequences, "cores and registers", &start, call, if used { item } else { REFUSED.to_string() });
-            };
-            one(line(core), value(u64::from(own[1] == 4 && own[2] == 1)));
-            for &register in &registers {
-                let read_value = own.get(register.min(3) as usize);
-                one(read(core, register), read_value.map_or(REFUSED.to_string(), |&own| value(own.into())));
-                let number = if register == 2 { own[2].into() } else { 1 };
-                one(write(core, register, number), written(&start, core as usize % CORES, register));
+            for caller in [core, WORKSHOP] {
+                on_registers(sequences, [number, slot], caller, core, &registers);
+            }
+        }
+    }
+}
+
+/// What this caller is answered where it reads and writes these registers of a core and reads its line, on a state with other
+/// registers in each core. What is forbidden is tried on bytes that are no state too.
+fn on_registers(sequences: &mut Sequences, [cores, slot]: [u8; 2], caller: u64, core: u64, registers: &[u64]) {
+    let all: Vec<(usize, [u8; 3])> = (0..CORES).map(|core| (core, different(core))).collect();
+    let start = state([cores, slot, 1], &all);
+    let own = different(core as usize % CORES);
+    let writes = caller == core && core < 16;
+    let reads = writes || caller == WORKSHOP;
+    let mut script = Script::default();
+    let mut one = |call: Call, right: bool, item: String| {
+        let item = if core < cores.into() { item } else { REFUSED.to_string() };
+        if right {
+            single(sequences, "cores and registers", &start, call.by(caller), item);
+        } else {
+            script.then(call.by(caller), FORBIDDEN);
+        }
+    };
+    one(line(core), reads, value(u64::from(own[1] == 4 && own[2] == 1)));
+    for &register in registers {
+        let read_value = own.get(register.min(3) as usize);
+        one(read(core, register), reads, read_value.map_or(REFUSED.to_string(), |&own| value(own.into())));
+        let number = if register == 2 { own[2].into() } else { 1 };
+        one(write(core, register, number), writes, written(&start, core as usize % CORES, register));
+        one(write(core, register, LARGEST), writes, REFUSED.to_string());
+    }
+    if !writes {
+        script.clone().add(sequences, "callers", &start);
+        script.add(sequences, "callers", &[0xff; BYTES]);
+    }
+}
+
+/// "a caller above 16 or without that right": every call by every caller on every core up to 17, and what fewer bits would make of
+/// callers and cores.
+pub fn callers(sequences: &mut Sequences) {
+    let far = [0, 1, 9, 15, 16, 17].into_iter().flat_map(with_bits_above).chain([18, 31, 32, 48, 255, LARGEST]);
+    let every: BTreeSet<u64> = (0..=17).chain(far).collect();
+    for bus @ [cores, slot] in [[2, 5], [16, 16]] {
+        for &caller in &every {
+            // what its lowest bits name, what has the same lowest bits, and itself
+            let named: BTreeSet<u64> = (0..=17).chain(with_bits_above(caller % 16)).chain([caller % 256, caller]).collect();
+            for core in named {
+                on_registers(sequences, bus, caller, core, &[0, 1, 2, 3, LARGEST]);
+            }
+            let start = state([cores, slot, 1], &[(1, [3, 4, 1]), (15, [2, 0, 1])]);
+            let mut ticked = start.clone();
+            ticked[2] = 2;
+            let calls = [
+                (TICK, left(&ticked)),
+                (reset(3, 7), left(&state([3, 7, 0], &[]))),
+                (reset(cores.into(), slot.into()), left(&state([cores, slot, 0], &[]))),
+                (reset(0, 0), REFUSED.to_string()),
+                (reset(17, 1), REFUSED.to_string()),
+                (reset(LARGEST, 5), REFUSED.to_string()),
+                (reset(2, LARGEST), REFUSED.to_string()),
+            ];
+            for (call, item) in calls {
+                let item = if caller == WORKSHOP { item } else { FORBIDDEN.to_string() };
+                single(sequences, "callers", &start, call.by(caller), item);
             }
         }
     }
@@ -279,17 +341,27 @@ pub fn resets(sequences: &mut Sequences) {
     }
 }
 
-/// Every call on a state that is malformed: all but a reset are refused.
+/// Every call on a state that is malformed: all but a reset are refused, and a caller without that right before that.
 fn refuse_all(sequences: &mut Sequences, category: &'static str, start: &[u8]) {
     let mut script = Script::default();
-    let calls =
-        [Call::Tick, read(0, 0), read(1, 1), read(0, 2), line(0), line(1), write(0, 0, 1), write(1, 0, 1), write(0, 2, 1)];
-    let wrong =
-        [write(0, 1, 0), read(0, 3), read(16, 0), line(LARGEST), write(1, 2, 2), write(0, 0, 0), reset(1, 5), reset(2, 129)];
-    calls.into_iter().chain(wrong).for_each(|call| script.then(call, REFUSED));
+    let calls = [TICK, read(0, 0), read(1, 1), read(0, 2), line(0), line(1), write(0, 0, 1), write(1, 0, 1), write(0, 2, 1)];
+    let wrong = [write(0, 1, 0), read(0, 3), read(9, 3), write(1, 2, 2), write(0, 0, 0), reset(1, 5), reset(2, 129)];
+    let watched = [read(0, 0), line(1), read(16, 0), line(LARGEST)].map(|call| call.by(WORKSHOP));
+    calls.into_iter().chain(wrong).chain(watched).for_each(|call| script.then(call, REFUSED));
+    forbidden().into_iter().for_each(|call| script.then(call, FORBIDDEN));
     script.then(reset(2, 5), left(&state([2, 5, 0], &[])));
-    script.then(Call::Tick, left(&state([2, 5, 1], &[])));
+    script.then(TICK, left(&state([2, 5, 1], &[])));
     script.add(sequences, category, start);
+}
+
+/// Calls without that right, good and bad ones in what they ask for.
+fn forbidden() -> Vec<Call> {
+    let workshop = [write(0, 0, 1), write(1, 2, 1), write(0, 1, 0), write(0, 0, 6), write(16, 0, 1), write(9, 2, 2)];
+    let core_1 = [TICK, reset(2, 5), reset(0, 0), read(0, 0), line(0), line(16), write(0, 0, 1), write(0, 3, 1), write(2, 0, 1)];
+    let nobody = [TICK, reset(2, 5), reset(1, 5), read(17, 0), read(1, 3), line(17), write(17, 0, 1), write(1, 2, 2)];
+    let each =
+        [(WORKSHOP, &workshop[..]), (1, &core_1), (17, &nobody), (LARGEST, &nobody), (257, &nobody), ((1 << 32) + 16, &nobody)];
+    each.into_iter().flat_map(|(caller, calls)| calls.iter().map(move |call| call.by(caller))).collect()
 }
 
 /// States malformed in one number, in each core, and those just inside the same limits.
@@ -313,8 +385,7 @@ pub fn malformed(sequences: &mut Sequences) {
             for registers in [[0, 0, 1], [slot, 0, 0], [slot, 1, 0], [slot, 2, 1], [slot, 4, 1], [1, 1, 1], [1, 2, 0], [0, 4, 0]]
             {
                 let start = with(registers);
-                let calls =
-                    vec![read(0, 0), read(1, 1), read(0, 2), line(0), line(1), Call::Tick, Call::Tick, write(0, 2, 1), line(0)];
+                let calls = vec![read(0, 0), read(1, 1), read(0, 2), line(0), line(1), TICK, TICK, write(0, 2, 1), line(0)];
                 sequences.open("states just inside", Sequence { state: start.clone(), calls });
                 single(sequences, "states just inside", &start, read(cores as u64 - 1, 3), REFUSED);
                 let own = if core == 0 { registers[0] } else { 0 };
@@ -324,7 +395,7 @@ pub fn malformed(sequences: &mut Sequences) {
     }
 }
 
-/// "15 register, judged first": 16 only where nothing else is wrong; a refused call leaves the state as it is.
+/// "15 register, judged first": 16 only where nothing else is wrong; 17 "judged before 15"; a refused call leaves the state as it is.
 pub fn order(sequences: &mut Sequences) {
     for flags in [1, 2] {
         for other in [0, 1, 2, 4] {
@@ -333,13 +404,19 @@ pub fn order(sequences: &mut Sequences) {
             for number in [0, 6, 127, 255, 256, 257, 258, (1 << 32) + 3, LARGEST] {
                 script.then(write(0, 0, number), REFUSED);
                 script.then(write(0, 1, number), REFUSED);
+                script.then(write(0, 0, number).by(1), FORBIDDEN);
+                script.then(write(0, 0, number).by(WORKSHOP), FORBIDDEN);
             }
             for number in 1..=5 {
                 script.then(write(0, 0, number), BUSY);
                 script.then(write(0, 3, number), REFUSED);
                 script.then(write(2, 0, number), REFUSED);
-                script.then(write(256, 0, number), REFUSED);
+                script.then(write(256, 0, number), FORBIDDEN);
+                for caller in [1, 2, 15, 16, 17, 256, LARGEST] {
+                    script.then(write(0, 0, number).by(caller), FORBIDDEN);
+                }
             }
+            forbidden().into_iter().for_each(|call| script.then(call, FORBIDDEN));
             script.then(write(0, 2, 2), REFUSED);
             // the mask may be written meanwhile
             script.then(write(0, 2, 0), left(&state([2, 5, 4], &[(0, [3, flags, 0]), (1, [2, other, 0])])));
@@ -360,11 +437,13 @@ pub fn order(sequences: &mut Sequences) {
 pub fn lengths(sequences: &mut Sequences) {
     let good = state([2, 5, 9], &[(0, [2, 1, 1]), (1, [3, 2, 1]), (15, [1, 0, 1])]);
     let calls = [
-        Call::Tick,
+        TICK,
         read(0, 0),
         read(LARGEST, LARGEST),
         line(0),
         line(2),
+        read(1, 0).by(WORKSHOP),
+        line(16).by(WORKSHOP),
         write(0, 2, 0),
         write(0, 0, 1),
         write(0, 0, 0),
@@ -372,12 +451,13 @@ pub fn lengths(sequences: &mut Sequences) {
         reset(16, 16),
         reset(0, 0),
     ];
+    let calls = [&calls[..], &forbidden()].concat();
     for bytes in [good.repeat(2), vec![0; 64], vec![0xff; 64], [vec![16], vec![1; 63]].concat()] {
         for length in (0..=64).filter(|&length| length != BYTES) {
             let mut script = Script::default();
-            calls.iter().for_each(|call| script.then(call.clone(), SHORT));
+            calls.iter().for_each(|&call| script.then(call, SHORT));
             script.add(sequences, "lengths of the state", &bytes[..length]);
         }
-        sequences.open("lengths of the state", Sequence { state: bytes[..BYTES].to_vec(), calls: calls.to_vec() });
+        sequences.open("lengths of the state", Sequence { state: bytes[..BYTES].to_vec(), calls: calls.clone() });
     }
 }

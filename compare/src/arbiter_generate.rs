@@ -1,8 +1,9 @@
 //! Makes sequences of calls: those written by hand, and random ones from resets, from states near good ones and from any bytes, each
 //! once. Everything follows from the seed.
 
-use crate::arbiter_cases::{self, line, read, reset, write, ABOVE};
-use crate::device::{Call, Sequence, BYTES, CORES};
+use crate::arbiter_cases::{self, line, read, reset, write, ABOVE, TICK};
+use crate::arbiter_laws::is_alike;
+use crate::device::{Call, Sequence, BYTES, CORES, WORKSHOP};
 use crate::generate::{random_bus, Random};
 use std::collections::HashSet;
 
@@ -14,6 +15,10 @@ pub enum Law {
     Reached,
     /// this core has what it had in the sequence before
     Undisturbed(u64),
+    /// this core is answered what it was answered in the sequence before
+    Equal(u64),
+    /// it leads where the sequence before led, which has forbidden calls in between
+    Led,
 }
 
 pub struct Case {
@@ -69,20 +74,56 @@ fn random_length(random: &mut Random, slot: u64) -> u64 {
     }
 }
 
-/// A call that is refused as a rule: a number is out of its range, or just is not.
+/// A call that is refused with 15 as a rule: a number is out of its range, or just is not.
 fn refused_call(random: &mut Random, cores: u64, slot: u64) -> Call {
     let core = random.below(cores);
     match random.below(10) {
-        0 => read(odd(random), random.below(3)),
-        1 => read(core, odd(random)),
-        2 => line(odd(random)),
-        3 => write(odd(random), random.below(3), 1),
+        0 => read(odd(random), random.below(3)).by(WORKSHOP),
+        1 => watched(read(core, odd(random)), random),
+        2 => line(odd(random)).by(WORKSHOP),
+        3 => write(random.below(CORES as u64), random.below(3), 1),
         4 => write(core, odd(random), 1),
         5 => write(core, 0, if random.once_in(2) { *random.one_of(&[0, slot + 1, 256 + slot]) } else { odd(random) }),
         6 => write(core, 1, random.below(6)),
         7 => write(core, 2, odd(random)),
         8 => reset(*random.one_of(&[0, 1, 17, 256 + cores]), slot),
         _ => reset(cores, *random.one_of(&[0, 256 / cores + 1, 129, 256 + slot])),
+    }
+}
+
+/// The core's own read or line, or the same by the workshop.
+fn watched(call: Call, random: &mut Random) -> Call {
+    if random.once_in(2) {
+        call.by(WORKSHOP)
+    } else {
+        call
+    }
+}
+
+/// A call whose caller has no right to it: the workshop writes, or anyone does anything.
+fn forbidden_call(random: &mut Random, cores: u64, slot: u64) -> Call {
+    loop {
+        let caller = match random.below(6) {
+            0..=1 => WORKSHOP,
+            2 => odd(random),
+            _ => random.below(CORES as u64 + 2),
+        };
+        let core = match random.below(6) {
+            0 => caller,
+            1 => odd(random),
+            _ => random.below(cores),
+        };
+        let call = match random.below(8) {
+            0 => TICK,
+            1 => reset(cores, slot),
+            2 => refused_call(random, cores, slot),
+            3 => read(core, random.below(4)),
+            4 => line(core),
+            _ => random_write(random, core, slot),
+        };
+        if !call.by(caller).is_permitted() {
+            return call.by(caller);
+        }
     }
 }
 
@@ -104,9 +145,14 @@ fn random_ticks(random: &mut Random, period: u64) -> u64 {
     }
 }
 
-/// All cores write and tick from a reset on; other resets and refused calls come in between.
+/// As many bytes as a state has.
+fn any_bytes(random: &mut Random) -> Vec<u8> {
+    (0..BYTES).map(|_| random.below(256) as u8).collect()
+}
+
+/// All cores write, and the workshop ticks, from a reset on; other resets, refused and forbidden calls come in between.
 fn from_reset(random: &mut Random) -> Sequence {
-    let state = (0..BYTES).map(|_| random.below(256) as u8).collect();
+    let state = any_bytes(random);
     let (mut cores, mut slot, _) = random_bus(random);
     let most = random.from(20, MOST_CALLS) as usize;
     // all cores write, or a few
@@ -114,12 +160,13 @@ fn from_reset(random: &mut Random) -> Sequence {
     let mut calls = vec![reset(cores, slot)];
     while calls.len() < most {
         let core = (first + random.below(writers)) % cores;
-        match random.below(40) {
+        match random.below(43) {
             0..=14 => calls.push(random_write(random, core, slot)),
-            15..=28 => (0..random_ticks(random, cores * slot)).for_each(|_| calls.push(Call::Tick)),
-            29..=32 => calls.push(read(random.below(cores), random.below(3))),
-            33..=36 => calls.push(line(core)),
+            15..=28 => (0..random_ticks(random, cores * slot)).for_each(|_| calls.push(TICK)),
+            29..=32 => calls.push(watched(read(random.below(cores), random.below(3)), random)),
+            33..=36 => calls.push(watched(line(core), random)),
             37..=38 => calls.push(refused_call(random, cores, slot)),
+            39..=41 => calls.push(forbidden_call(random, cores, slot)),
             _ if random.once_in(3) => {
                 (cores, slot, _) = random_bus(random);
                 calls.push(reset(cores, slot));
@@ -166,14 +213,15 @@ fn calls_on(random: &mut Random, state: &[u8], most: u64) -> Vec<Call> {
     let mut calls = Vec::new();
     for _ in 0..random.from(2, most) {
         let core = random.below(cores);
-        calls.push(match random.below(20) {
-            0..=8 => Call::Tick,
+        calls.push(match random.below(22) {
+            0..=8 => TICK,
             9..=12 => random_write(random, core, slot),
-            13..=14 => read(core, random.below(3)),
-            15..=16 => line(core),
+            13..=14 => watched(read(core, random.below(3)), random),
+            15..=16 => watched(line(core), random),
             17..=18 => refused_call(random, cores, slot),
+            19..=20 => forbidden_call(random, cores, slot),
             _ if random.once_in(4) => reset(random.from(2, 5), random.from(1, 9)),
-            _ => Call::Tick,
+            _ => TICK,
         });
     }
     calls
@@ -196,45 +244,78 @@ fn from_any_bytes(random: &mut Random) -> Sequence {
     Sequence { state, calls }
 }
 
-/// Two sequences from one state, with a core's own calls, ticks and resets alike; the other cores' writes are different ones, or none.
-fn pair(random: &mut Random) -> (Sequence, Sequence, u64) {
+/// A call that is not alike in both of a pair: another core's, a read by the workshop, or a forbidden one.
+fn other_call(random: &mut Random, core: u64, cores: u64, slot: u64) -> Call {
+    loop {
+        let other = random.below(cores);
+        let call = match random.below(10) {
+            0..=4 => random_write(random, other, slot),
+            5 => write(other, 1, 0),
+            6 => watched(line(other), random),
+            7 => watched(read(other, random.below(3)), random),
+            _ => forbidden_call(random, cores, slot),
+        };
+        if !is_alike(core, &call) {
+            return call;
+        }
+    }
+}
+
+/// Two sequences with a core's own calls and the workshop's ticks and resets alike; all other calls are different ones, or none. They
+/// begin with one state, or with different ones and one reset.
+fn pair(random: &mut Random, from_one_state: bool) -> (Sequence, Sequence, Law) {
     let state = good_state(random);
     let (mut cores, mut slot) = (u64::from(state[0]), u64::from(state[1]));
-    let core = random.below(cores);
+    let core = if random.once_in(8) { random.below(CORES as u64) } else { random.below(cores) };
     let alone = random.once_in(4);
     let mut both = [Vec::new(), Vec::new()];
-    for _ in 0..random.from(20, 150) {
+    for place in 0..random.from(20, 150) {
         for calls in both.iter_mut().skip(usize::from(alone)) {
-            for _ in 0..random.below(3) {
-                let other = (core + random.from(1, cores - 1)) % cores;
-                calls.push(if random.once_in(8) { write(other, 1, 0) } else { random_write(random, other, slot) });
-            }
+            (0..random.below(3)).for_each(|_| calls.push(other_call(random, core, cores, slot)));
         }
         let own = match random.below(12) {
+            _ if place == 0 && !from_one_state => vec![reset(cores, slot)],
             0..=1 => vec![random_write(random, core, slot)],
             2 if random.once_in(12) => {
                 (cores, slot, _) = random_bus(random);
                 vec![reset(cores, slot)]
             }
             3 => vec![read(core, random.below(3)), refused_call(random, cores, slot)],
-            _ => vec![Call::Tick, line(core)],
+            4 => vec![forbidden_call(random, cores, slot).by(core)],
+            _ => vec![TICK, line(core)],
         };
-        let own: Vec<Call> = own.into_iter().filter(|call| call.core().unwrap_or(core) == core).collect();
-        both.iter_mut().for_each(|calls| calls.extend(own.clone()));
+        both.iter_mut().for_each(|calls| calls.extend(own.iter().filter(|call| is_alike(core, call))));
     }
-    let [first, second] = both.map(|calls| Sequence { state: state.clone(), calls });
-    (first, second, core)
+    let (other, law) = match random.below(2) {
+        _ if from_one_state => (state.clone(), Law::Undisturbed(core)),
+        0 => (good_state(random), Law::Equal(core)),
+        _ => (any_bytes(random), Law::Equal(core)),
+    };
+    let [first, second] = both;
+    (Sequence { state, calls: first }, Sequence { state: other, calls: second }, law)
+}
+
+/// A sequence with forbidden calls, and the same without them.
+fn with_and_without(random: &mut Random) -> (Sequence, Sequence, Law) {
+    let with = if random.once_in(2) { from_reset(random) } else { from_near(random) };
+    let permitted = with.calls.iter().copied().filter(Call::is_permitted).collect();
+    let without = Sequence { state: with.state.clone(), calls: permitted };
+    (with, without, Law::Led)
 }
 
 /// All sequences: so many random ones, and those written by hand. Pairs come first, so that none is parted between two runs.
 pub fn all(seed: u64, wanted: usize) -> Vec<Case> {
     let mut random = Random::new(seed ^ 0x61_7262_6974);
     let mut sequences = Sequences::default();
-    while sequences.list.len() < wanted / 10 * 2 {
-        let (first, second, core) = pair(&mut random);
-        if first != second {
+    while sequences.list.len() < wanted / 10 * 4 {
+        let (first, second, law) = match sequences.list.len() % 6 {
+            0 => pair(&mut random, true),
+            2 => pair(&mut random, false),
+            _ => with_and_without(&mut random),
+        };
+        if first != second && !second.calls.is_empty() {
             sequences.add("pairs", first, None, Law::Nothing);
-            sequences.add("pairs", second, None, Law::Undisturbed(core));
+            sequences.add("pairs", second, None, law);
         }
     }
     while sequences.list.len() < wanted {
@@ -248,6 +329,7 @@ pub fn all(seed: u64, wanted: usize) -> Vec<Case> {
     arbiter_cases::every_wait(&mut sequences);
     arbiter_cases::values(&mut sequences);
     arbiter_cases::numbers(&mut sequences);
+    arbiter_cases::callers(&mut sequences);
     arbiter_cases::resets(&mut sequences);
     arbiter_cases::malformed(&mut sequences);
     arbiter_cases::order(&mut sequences);

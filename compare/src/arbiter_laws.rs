@@ -1,7 +1,7 @@
-//! What is tried on the program's own answers: when an access is done, that no two cores run, and that other cores' writes do not
-//! matter to a core.
+//! What is tried on the program's own answers: when an access is done, that no two cores run, that other cores' calls do not matter to
+//! a core, and forbidden ones to nobody.
 
-use crate::device::{Bus, Call, Sequence, BYTES, CORES};
+use crate::device::{Asked, Bus, Call, Sequence, BYTES, CORES, WORKSHOP};
 
 /// What the program answered to a call, and the state that it left.
 pub struct Step {
@@ -43,15 +43,15 @@ pub fn untimely(sequence: &Sequence, steps: &[Step]) -> Option<String> {
     let mut ticks_left = [None; CORES];
     let mut before = &sequence.state;
     for (place, (call, step)) in sequence.calls.iter().zip(steps).enumerate() {
-        match *call {
+        match call.asked {
             _ if !step.is_done() => {}
-            Call::Write { core, register: 0, value } => {
+            Asked::Write { core, register: 0, value } => {
                 // where the program took what it may not take, its line differs
                 let bus = Bus::new(before[0].into(), before[1].into()).filter(|bus| core < bus.cores && value <= bus.slot)?;
                 ticks_left[core as usize] = Some(bus.wait(core, before[2].into(), value) + value);
             }
-            Call::Reset { .. } => ticks_left = [None; CORES],
-            Call::Tick => {
+            Asked::Reset { .. } => ticks_left = [None; CORES],
+            Asked::Tick => {
                 for (core, left) in ticks_left.iter_mut().enumerate() {
                     *left = left.map(|ticks| ticks - 1);
                     let done = step.registers(core)[1] == 4;
@@ -75,13 +75,37 @@ pub fn crowded(steps: &[Step]) -> Option<String> {
     Some(format!("call {place}: two cores run"))
 }
 
-/// "the other cores' writes never alter this core's registers or line": where two sequences that are alike but for other
-/// cores' calls differ.
-pub fn disturbed(core: u64, both: [(&Sequence, &[Step]); 2]) -> Option<String> {
+/// Two sequences, with what the program answered.
+pub type Both<'a> = [(&'a Sequence, &'a [Step]); 2];
+
+/// Where they differ in what is seen of some of their calls.
+fn apart<'a, T: PartialEq>(both: Both<'a>, seen: &dyn Fn(&Call, &'a Step) -> Option<T>) -> Option<String> {
     let [first, second] = both.map(|(sequence, steps)| {
-        let own = sequence.calls.iter().zip(steps).filter(move |(call, _)| call.core().unwrap_or(core) == core);
-        own.map(move |(_, step)| (&step.answer, step.registers(core as usize)))
+        let all = sequence.calls.iter().zip(steps).filter_map(|(call, step)| seen(call, step));
+        all.collect::<Vec<T>>()
     });
-    let place = first.zip(second).position(|(one, other)| one != other)?;
-    Some(format!("core {core} differs at its call {place}"))
+    let place = (0..first.len().max(second.len())).find(|&place| first.get(place) != second.get(place))?;
+    Some(format!("they differ at call {place} of those that count"))
+}
+
+/// A call that has to be alike in both where a core has to find the same: "a core's own calls and the workshop's ticks and resets".
+pub fn is_alike(core: u64, call: &Call) -> bool {
+    call.caller == core || call.caller == WORKSHOP && matches!(call.asked, Asked::Tick | Asked::Reset { .. })
+}
+
+/// "the other cores' writes never alter this core's registers or line", from one state.
+pub fn disturbed(core: u64, both: Both) -> Option<String> {
+    apart(both, &|call, step| is_alike(core, call).then(|| (&step.answer, step.registers(core as usize))))
+}
+
+/// "every answer to that core is equal", from different states, with one reset before its calls.
+pub fn unequal(core: u64, both: Both) -> Option<String> {
+    apart(both, &|call, step| (call.caller == core).then_some(&step.answer))
+}
+
+/// Calls lead where the permitted ones among them lead, which are alike in both.
+pub fn led_elsewhere(both: Both) -> Option<String> {
+    let [first, second] = both.map(|(_, steps)| steps.last().map(|step| &step.state));
+    let elsewhere = (first != second).then(|| "the last states differ".to_string());
+    elsewhere.or_else(|| apart(both, &|call, step| call.is_permitted().then_some((&step.answer, &step.state))))
 }

@@ -1,8 +1,9 @@
-//! A second reading of change request W7: what each call of the arbiter answers, and the state that it leaves.
+//! A second reading of change requests W7 and W8: what each call of the arbiter answers, and the state that it leaves.
 //!
 //! Each core is idle, waits, runs or is done, and goes from one to the other as the request's sentences say. A second account has no
 //! such stages: an access is two dates, found by the clock of document 01 when its length is written, and the registers follow from
-//! the dates and the number of ticks. Both must agree after every call that is done.
+//! the dates and the number of ticks. Both must agree after every call that is done. Whether a call is forbidden is said of the call
+//! alone, before anything else of it or of the state is looked at.
 
 use crate::generate::hexadecimal;
 use Stage::{Done, Idle, Running, Waiting};
@@ -11,8 +12,18 @@ use Stage::{Done, Idle, Running, Waiting};
 pub const CORES: usize = 16;
 pub const BYTES: usize = 3 + 3 * CORES;
 
-#[derive(Clone, PartialEq, Eq, Hash)]
-pub enum Call {
+/// "Each call names its caller: a core number, or 16 for the workshop."
+pub const WORKSHOP: u64 = 16;
+
+#[derive(Clone, Copy, PartialEq, Eq, Hash)]
+pub struct Call {
+    pub caller: u64,
+    pub asked: Asked,
+}
+
+/// What is asked for in a call.
+#[derive(Clone, Copy, PartialEq, Eq, Hash)]
+pub enum Asked {
     Tick,
     Read { core: u64, register: u64 },
     Line { core: u64 },
@@ -21,21 +32,39 @@ pub enum Call {
 }
 
 impl Call {
+    /// The same, by another caller.
+    pub fn by(self, caller: u64) -> Call {
+        Call { caller, ..self }
+    }
+
     /// The core that is named.
-    pub fn core(&self) -> Option<u64> {
-        match *self {
-            Call::Tick | Call::Reset { .. } => None,
-            Call::Read { core, .. } | Call::Line { core } | Call::Write { core, .. } => Some(core),
+    fn core(&self) -> Option<u64> {
+        match self.asked {
+            Asked::Tick | Asked::Reset { .. } => None,
+            Asked::Read { core, .. } | Asked::Line { core } | Asked::Write { core, .. } => Some(core),
+        }
+    }
+
+    /// Whether the caller has that right.
+    pub fn is_permitted(&self) -> bool {
+        match self.caller {
+            // "A core reads and writes its own registers and reads its own line.", whether the bus has that core or not
+            0..=15 => self.core() == Some(self.caller),
+            // "The workshop reads everything, ticks and resets, and writes no register."
+            WORKSHOP => !matches!(self.asked, Asked::Write { .. }),
+            // "a caller above 16"
+            _ => false,
         }
     }
 
     fn word(&self) -> String {
-        match self {
-            Call::Tick => "t".to_string(),
-            Call::Read { core, register } => format!("r/{core}/{register}"),
-            Call::Line { core } => format!("l/{core}"),
-            Call::Write { core, register, value } => format!("w/{core}/{register}/{value}"),
-            Call::Reset { cores, slot } => format!("z/{cores}/{slot}"),
+        let caller = self.caller;
+        match self.asked {
+            Asked::Tick => format!("t/{caller}"),
+            Asked::Read { core, register } => format!("r/{caller}/{core}/{register}"),
+            Asked::Line { core } => format!("l/{caller}/{core}"),
+            Asked::Write { core, register, value } => format!("w/{caller}/{core}/{register}/{value}"),
+            Asked::Reset { cores, slot } => format!("z/{caller}/{cores}/{slot}"),
         }
     }
 }
@@ -55,7 +84,7 @@ impl Sequence {
     }
 }
 
-/// Why a call is refused: with 16 where the core is busy, else with 15.
+/// Why a call is refused.
 #[derive(Clone, Copy, Debug, PartialEq, Eq, PartialOrd, Ord)]
 pub enum Refusal {
     State,
@@ -65,6 +94,17 @@ pub enum Refusal {
     Value,
     Reset,
     Busy,
+    Forbidden,
+}
+
+impl Refusal {
+    pub fn number(self) -> u64 {
+        match self {
+            Refusal::Forbidden => 17,
+            Refusal::Busy => 16,
+            _ => 15,
+        }
+    }
 }
 
 pub enum Found {
@@ -240,23 +280,27 @@ impl Device {
 
 /// The device after the call, the value read, and the accesses that came to done.
 fn perform(state: &[u8], call: &Call) -> Result<(Device, u64, usize), Refusal> {
-    if let Call::Reset { cores, slot } = *call {
+    // "judged before 15"
+    if !call.is_permitted() {
+        return Err(Refusal::Forbidden);
+    }
+    if let Asked::Reset { cores, slot } = call.asked {
         return Ok((Device::reset(Bus::new(cores, slot).ok_or(Refusal::Reset)?), 0, 0));
     }
     let mut device = Device::read(state).ok_or(Refusal::State)?;
     let slot = device.bus.slot;
     let (mut value, mut ended) = (0, 0);
-    match *call {
-        Call::Read { core, register } => {
+    match call.asked {
+        Asked::Read { core, register } => {
             let registers = device.core(core)?.registers();
             value = *registers.get(register.min(3) as usize).ok_or(Refusal::Register)?;
         }
         // "The interrupt line is done together with the mask."
-        Call::Line { core } => {
+        Asked::Line { core } => {
             let core = device.core(core)?;
             value = u64::from(core.stage == Done && core.mask == 1);
         }
-        Call::Write { core, register, value } => device.core(core)?.write(register, value, slot)?,
+        Asked::Write { core, register, value } => device.core(core)?.write(register, value, slot)?,
         _ => {
             let before = device.number_done();
             device.tick();
@@ -338,10 +382,7 @@ impl Model {
             return Answer { item: "2/-/-/=".to_string(), found: Found::Length, doubt: None };
         }
         match perform(&self.state, call) {
-            Err(refusal) => {
-                let number = if refusal == Refusal::Busy { 16 } else { 15 };
-                Answer { item: format!("1/{number}/0/="), found: Found::Refused(refusal), doubt: None }
-            }
+            Err(refusal) => Answer { item: format!("1/{}/0/=", refusal.number()), found: Found::Refused(refusal), doubt: None },
             Ok((device, value, ended)) => {
                 let doubt = self.follow(call, &device);
                 let after = device.bytes();
@@ -355,16 +396,16 @@ impl Model {
     /// The second account of a call that is done; where it differs from this device after it, or from Equation 7.
     fn follow(&mut self, call: &Call, after: &Device) -> Option<String> {
         let mut doubt = None;
-        match (call, &mut self.dates) {
-            (Call::Reset { .. }, dates) => *dates = Some(Dates::of(&Device::reset(after.bus))),
-            (Call::Tick, Some(dates)) => dates.ticks += 1,
-            (&Call::Write { core, register: 0, value }, Some(dates)) => {
+        match (call.asked, &mut self.dates) {
+            (Asked::Reset { .. }, dates) => *dates = Some(Dates::of(&Device::reset(after.bus))),
+            (Asked::Tick, Some(dates)) => dates.ticks += 1,
+            (Asked::Write { core, register: 0, value }, Some(dates)) => {
                 let (clock, formula) =
                     (dates.bus.cycles_until_start(core, dates.offset(), value), dates.bus.wait(core, dates.offset(), value));
                 doubt = (clock != Some(formula)).then(|| format!("by the clock {clock:?}, by Equation 7 {formula}"));
                 dates.cores[core as usize].0 = dates.access(core, value);
             }
-            (&Call::Write { core, value, .. }, Some(dates)) => dates.cores[core as usize].1 = value,
+            (Asked::Write { core, value, .. }, Some(dates)) => dates.cores[core as usize].1 = value,
             _ => {}
         }
         let by_dates = self.dates.as_ref().map(Dates::bytes).unwrap_or_default();

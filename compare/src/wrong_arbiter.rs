@@ -6,6 +6,7 @@ use crate::{answer_lines, Fault, Said};
 /// A call as its word says; numbers that it does not have are 0.
 struct Call {
     kind: char,
+    caller: u64,
     core: u64,
     register: u64,
     value: u64,
@@ -48,9 +49,17 @@ fn read(fault: &Fault, word: &str) -> Option<Call> {
     let mut parts = word.split('/');
     let kind = parts.next()?.chars().next()?;
     let mut number = || parts.next().map_or(Some(0), |part| part.parse::<u64>().ok());
-    let mut call = Call { kind, core: number()?, register: number()?, value: number()? };
+    let mut call = Call { kind, caller: number()?, core: number()?, register: number()?, value: number()? };
     let reset = kind == 'z';
     match fault.0.as_str() {
+        "arbiter-caller-in-5-bits" => call.caller %= 32,
+        "arbiter-caller-in-a-byte" => call.caller %= 1 << 8,
+        "arbiter-caller-16-bit" => call.caller %= 1 << 16,
+        "arbiter-caller-32-bit" => call.caller %= 1 << 32,
+        "arbiter-caller-63-bit" => call.caller %= 1 << 63,
+        "arbiter-caller-largest-is-workshop" if call.caller == u64::MAX => call.caller = 16,
+        "arbiter-caller-17-is-workshop" if call.caller == 17 => call.caller = 16,
+        "arbiter-caller-above-is-workshop" => call.caller = call.caller.min(16),
         "arbiter-core-in-4-bits" if !reset => call.core %= 16,
         "arbiter-core-in-a-byte" if !reset => call.core %= 1 << 8,
         "arbiter-core-16-bit" if !reset => call.core %= 1 << 16,
@@ -81,7 +90,11 @@ fn answer(fault: &Fault, call: &Call, state: &mut Vec<u8>) -> [u64; 3] {
         _ => state.len() == 51,
     };
     if !length_good {
-        return if fault.is("arbiter-length-is-15") { [1, 15, 0] } else { [2, 0, 0] };
+        return match fault.0.as_str() {
+            "arbiter-length-is-15" => [1, 15, 0],
+            "arbiter-forbidden-before-length" if forbidden(fault, call, state) => [1, 17, 0],
+            _ => [2, 0, 0],
+        };
     }
     let length = state.len();
     state.resize(51.max(length), 0);
@@ -117,7 +130,14 @@ fn refused(fault: &Fault, call: &Call, number: u64) -> [u64; 3] {
         "arbiter-place-length" => [1, number, 51],
         "arbiter-place-of-busy" if number == 16 => [1, 16, call.core * 3 + 3],
         "arbiter-number-5" if number == 15 => [1, 5, 0],
-        "arbiter-busy-is-15" => [1, 15, 0],
+        "arbiter-busy-is-15" if number == 16 => [1, 15, 0],
+        "arbiter-forbidden-is-15" if number == 17 => [1, 15, 0],
+        "arbiter-forbidden-is-16" if number == 17 => [1, 16, 0],
+        "arbiter-forbidden-place-1" if number == 17 => [1, 17, 1],
+        "arbiter-forbidden-place-caller" if number == 17 => [1, 17, call.caller],
+        "arbiter-forbidden-place-core" if number == 17 => [1, 17, call.core],
+        "arbiter-forbidden-is-done" if number == 17 => [0, 0, 0],
+        "arbiter-forbidden-status-2" if number == 17 => [2, 0, 0],
         "arbiter-answer-swapped" => [1, 0, number],
         "arbiter-status-0" => [0, number, 0],
         "arbiter-status-2" => [2, 0, 0],
@@ -128,6 +148,8 @@ fn refused(fault: &Fault, call: &Call, number: u64) -> [u64; 3] {
 /// What a fault does to the state though the call is refused.
 fn alter_refused(fault: &Fault, call: &Call, number: u64, state: &mut [u8]) {
     let place = 3 + 3 * (call.core % 16) as usize;
+    let own = 3 + 3 * (call.caller % 16) as usize;
+    let forbidden = number == 17;
     let write = call.kind == 'w';
     match fault.0.as_str() {
         "arbiter-refused-written" if write && call.register == 0 => state[place] = call.value as u8,
@@ -137,13 +159,125 @@ fn alter_refused(fault: &Fault, call: &Call, number: u64, state: &mut [u8]) {
         "arbiter-refused-clears-done" if write && state[place + 1] == 4 => state[place + 1] = 0,
         "arbiter-refused-reset-clears" if call.kind == 'z' => state[3..51].fill(0),
         "arbiter-refused-tick-moves" if call.kind == 't' => state[2] = state[2].wrapping_add(1),
+        "arbiter-forbidden-performed" if forbidden && judged_by_numbers(fault, call, state) == 0 => {
+            perform(fault, call, state);
+        }
+        "arbiter-forbidden-mask-written" if forbidden && write && call.register == 2 => state[place + 2] = call.value as u8,
+        "arbiter-forbidden-tick-moves" if forbidden && call.kind == 't' => state[2] = state[2].wrapping_add(1),
+        "arbiter-forbidden-reset-clears" if forbidden && call.kind == 'z' => state[3..51].fill(0),
+        "arbiter-forbidden-clears-named" if forbidden && state[place + 1] == 4 => state[place + 1] = 0,
+        "arbiter-forbidden-clears-own" if forbidden && state[own + 1] == 4 => state[own + 1] = 0,
         "arbiter-malformed-cleared" if malformed(fault, state, 16) => state[3..51].fill(0),
         _ => {}
     }
 }
 
-/// 15 or 16, or 0 where the call is done.
+/// 15, 16 or 17, or 0 where the call is done.
 fn refusal(fault: &Fault, call: &Call, state: &[u8]) -> u64 {
+    let number = judged_by_numbers(fault, call, state);
+    let reset = call.kind == 'z';
+    let named = !reset && call.kind != 't';
+    let first = match fault.0.as_str() {
+        "arbiter-forbidden-last" => number > 0,
+        "arbiter-forbidden-behind-15" => number == 15,
+        "arbiter-forbidden-behind-16" => number == 16,
+        "arbiter-forbidden-behind-state" => !reset && malformed(fault, state, 16),
+        "arbiter-forbidden-behind-core" => named && call.core >= 16,
+        "arbiter-forbidden-behind-unused" => named && call.core >= state[0].into(),
+        "arbiter-forbidden-behind-register" => call.kind == 'r' && call.register > 2,
+        "arbiter-forbidden-behind-flags" => call.kind == 'w' && call.register == 1,
+        "arbiter-forbidden-behind-value" => call.kind == 'w' && number == 15 && call.register != 1,
+        "arbiter-forbidden-behind-reset" => reset && number == 15,
+        _ => false,
+    };
+    if !first && forbidden(fault, call, state) {
+        17
+    } else {
+        number
+    }
+}
+
+/// Whether the caller has no right to the call; of the state only the number of cores is looked at, and that by faults alone.
+fn forbidden(fault: &Fault, call: &Call, state: &[u8]) -> bool {
+    let Call { kind, caller, core, register, value } = *call;
+    let core_number = caller < 16;
+    let workshop = caller == 16;
+    let (reads, line, writes, ticks, resets) = (kind == 'r', kind == 'l', kind == 'w', kind == 't', kind == 'z');
+    let named = reads || line || writes;
+    let own = named && caller == core;
+    let other = named && core_number && !own;
+    let unused = named && core >= state.first().copied().unwrap_or(0).into();
+    match fault.0.as_str() {
+        // rights too many
+        "arbiter-callers-unjudged" => false,
+        "arbiter-callers-above-unjudged" if caller > 16 => false,
+        "arbiter-caller-17-reads-own" if caller == 17 && own && reads => false,
+        "arbiter-caller-above-own" if own && caller > 16 => false,
+        "arbiter-caller-above-reads" if caller > 16 && (reads || line) => false,
+        "arbiter-caller-above-ticks" if caller > 16 && ticks => false,
+        "arbiter-workshop-writes" if workshop && writes => false,
+        "arbiter-workshop-writes-own" if workshop && writes && own => false,
+        "arbiter-workshop-writes-core-0" if workshop && writes && core == 0 => false,
+        "arbiter-workshop-writes-lengths" if workshop && writes && register == 0 => false,
+        "arbiter-workshop-writes-masks" if workshop && writes && register == 2 => false,
+        "arbiter-workshop-clears-masks" if workshop && writes && register == 2 && value == 0 => false,
+        "arbiter-workshop-writes-flags" if workshop && writes && register == 1 => false,
+        "arbiter-workshop-writes-outside" if workshop && writes && core > 16 => false,
+        "arbiter-core-0-is-workshop" if caller == 0 && !writes => false,
+        "arbiter-core-ticks" if core_number && ticks => false,
+        "arbiter-core-0-ticks" if caller == 0 && ticks => false,
+        "arbiter-core-resets" if core_number && resets => false,
+        "arbiter-core-15-resets" if caller == 15 && resets => false,
+        "arbiter-core-resets-by-cores" if core_number && resets && caller == core => false,
+        "arbiter-core-reads-others" if other && reads => false,
+        "arbiter-core-reads-next" if core_number && reads && core == caller + 1 => false,
+        "arbiter-core-reads-lengths" if other && reads && register == 0 => false,
+        "arbiter-core-reads-flags" if other && reads && register == 1 => false,
+        "arbiter-core-reads-masks" if other && reads && register == 2 => false,
+        "arbiter-core-reads-no-register" if other && reads && register > 2 => false,
+        "arbiter-core-reads-workshop" if core_number && core == 16 && (reads || line) => false,
+        "arbiter-core-reads-lines" if other && line => false,
+        "arbiter-core-reads-line-before" if core_number && line && caller == core.saturating_add(1) => false,
+        "arbiter-core-writes-others" if other && writes => false,
+        "arbiter-core-writes-next" if core_number && writes && core == caller + 1 => false,
+        "arbiter-core-writes-lengths" if other && writes && register == 0 => false,
+        "arbiter-core-writes-masks" if other && writes && register == 2 => false,
+        "arbiter-core-clears-masks" if other && writes && register == 2 && value == 0 => false,
+        "arbiter-core-writes-no-register" if other && writes && register > 2 => false,
+        "arbiter-core-0-writes-others" if caller == 0 && writes => false,
+        "arbiter-right-4-bits" if core_number && named && core % 16 == caller => false,
+        "arbiter-right-in-a-byte" if core_number && named && core % 256 == caller => false,
+        "arbiter-right-32-bit" if core_number && named && core % (1 << 32) == caller => false,
+        // rights too few
+        "arbiter-workshop-no-ticks" if ticks => true,
+        "arbiter-workshop-no-resets" if resets => true,
+        "arbiter-workshop-no-lines" if workshop && line => true,
+        "arbiter-workshop-no-reads" if workshop && reads => true,
+        "arbiter-workshop-no-masks" if workshop && reads && register == 2 => true,
+        "arbiter-workshop-no-register" if workshop && reads && register > 2 => true,
+        "arbiter-workshop-no-core-16" if workshop && core == 16 && (reads || line) => true,
+        "arbiter-workshop-cores-only" if workshop && core >= 16 && (reads || line) => true,
+        "arbiter-workshop-used-cores" if workshop && unused => true,
+        "arbiter-core-used-only" if core_number && unused => true,
+        "arbiter-core-15-forbidden" if caller == 15 => true,
+        "arbiter-core-0-forbidden" if caller == 0 => true,
+        "arbiter-core-no-line" if core_number && line => true,
+        "arbiter-core-no-flags" if core_number && writes && register == 1 => true,
+        "arbiter-core-no-mask" if core_number && writes && register == 2 => true,
+        "arbiter-core-no-register" if core_number && named && register > 2 => true,
+        "arbiter-core-no-length-0" if core_number && writes && register == 0 && value == 0 => true,
+        "arbiter-core-no-large-value" if core_number && writes && value > 255 => true,
+        "arbiter-reset-good-only" if resets && !bus_good(fault, true, core, register) => true,
+        _ => match kind {
+            't' | 'z' => !workshop,
+            'w' => !(core_number && own),
+            _ => !(core_number && own || workshop),
+        },
+    }
+}
+
+/// 15 or 16, or 0 where the call can be done, whoever its caller is.
+fn judged_by_numbers(fault: &Fault, call: &Call, state: &[u8]) -> u64 {
     if call.kind == 'z' {
         let judged = fault.is("arbiter-reset-judges-state") && malformed(fault, state, 16);
         return if bus_good(fault, true, call.core, call.register) && !judged { 0 } else { 15 };
@@ -310,7 +444,9 @@ fn busy(fault: &Fault, call: &Call, state: &[u8]) -> bool {
 
 /// The call is done; the value read.
 fn perform(fault: &Fault, call: &Call, state: &mut [u8]) -> u64 {
-    let place = 3 + 3 * (call.core % 16) as usize;
+    let named = if fault.is("arbiter-caller-is-read") && call.kind == 'r' { call.caller } else { call.core };
+    let place = 3 + 3 * (named % 16) as usize;
+    let workshop = call.caller == 16;
     match call.kind {
         'z' => reset(fault, call, state),
         't' => tick(fault, state),
@@ -324,24 +460,26 @@ fn perform(fault: &Fault, call: &Call, state: &mut [u8]) -> u64 {
                 "arbiter-read-mask-of-0" if register == 2 => state[5],
                 _ => state[place + register],
             };
-            if fault.is("arbiter-read-clears-done") && register == 1 && state[place + 1] == 4 {
+            let clears = fault.is("arbiter-read-clears-done") || fault.is("arbiter-workshop-read-clears-done") && workshop;
+            if clears && register == 1 && state[place + 1] == 4 {
                 state[place + 1] = 0;
             }
             return value.into();
         }
-        _ => return interrupt(fault, &mut state[place..place + 3]),
+        _ => return interrupt(fault, workshop, &mut state[place..place + 3]),
     }
     0
 }
 
-fn interrupt(fault: &Fault, own: &mut [u8]) -> u64 {
+fn interrupt(fault: &Fault, workshop: bool, own: &mut [u8]) -> u64 {
     let (done, mask) = (own[1] == 4, own[2] == 1);
-    if fault.is("arbiter-line-clears-done") && done {
+    if done && (fault.is("arbiter-line-clears-done") || fault.is("arbiter-workshop-line-clears-done") && workshop) {
         own[1] = 0;
     }
     let line = match fault.0.as_str() {
         "arbiter-line-without-mask" => done,
         "arbiter-line-of-mask" => mask,
+        "arbiter-workshop-line-without-mask" if workshop => done,
         "arbiter-line-while-running" => (done || own[1] == 2) && mask,
         "arbiter-line-while-idle" => (done || own[1] == 0) && mask,
         "arbiter-line-mask-turned" => done && !mask,
