@@ -1,6 +1,6 @@
 // edits: one plain block's durations tried and changed (document 02, "Trying a change before making it").
 //
-// `edit` and `preview` ask nothing of their caller, and promise of every image, numbers and table (specs/Promise.antt):
+// `edit` and `preview` have no `requires`, and promise of every image, numbers and table (specs/Promise.antt):
 //   edit     `Editing`: the answer and the image at exit equal definitions (specs/Edits.antt), for refused edits too; refused if and only if
 //            the condition for it holds. `EditDone`: a possible edit is done and leaves an accepted image, in which that block has the given
 //            durations and all else is as it was; the old durations restore it. Wrong answers that these rule out: a fifth byte, the

@@ -1,6 +1,6 @@
 // figures: THE entry. An image and a lent table in, an answer out; demands 1, 2 and 3 are its contract.
 //
-// `figures` asks nothing of its caller and promises, for every image and every table:
+// `figures` has no `requires` and promises, for every image and every table:
 //   equality  the answer and the table at exit equal definitions over the image's bytes and the table at entry (specs/Answers.antt):
 //             a refusal's number and place, the table unchanged; or both figures, the exit count and the filled table;
 //   demand3   one statement about all whole runs of an accepted image (specs/WholeRuns.antt);

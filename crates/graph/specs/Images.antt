@@ -41,7 +41,7 @@ Imaged g n image kept = (i : ℕ) → i < n → Quoted (image i) (kept i) (g i .
 
 -- n images run on one bus clock, the whole begun at the cycle `origin` of it: each starts as soon as those have ended that it waits for and
 -- the previous one on its core, and ends when its run does. Each accesses the bus in the slot of its image's core: that images with the same
--- slot stand on one core of the table is the caller's to see, since only then they run one after the other.
+-- slot stand on one core of the table is the table's maker's to see, since only then they run one after the other.
 pub record Ran (g : Graph) (n : ℕ) (image : ℕ → List ℕ) (kept : ℕ → Kept) (origin : ℕ) (start end : ℕ → ℕ) : Type 0 where
   pub starts : (i : ℕ) → i < n → AsSoon g start end i
   pub runs : (i : ℕ) → i < n → (d : ℕ) × Takes (taskOf (image i) (kept i)) (origin + start i) d × (end i ≡ start i + d)

@@ -1,4 +1,4 @@
--- The table as the caller lends it, a slice of numbers, and the answer for any such slice. Definitions only.
+-- The table as it is lent, a slice of numbers, and the answer for any such slice. Definitions only.
 --
 -- An entry is a row of 11 numbers: core, time, how many tasks it waits for, and places for 8 task numbers, of which the first so many are
 -- read. A slice is a table of n tasks when it has n rows.

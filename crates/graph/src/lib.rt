@@ -1,6 +1,6 @@
 // graph: tasks that wait for tasks (request W12 of document 02; section 2.2 of 000). A lent table of tasks in, 64 finishes out.
 //
-// `finishes` asks nothing of its caller and promises, for every slice of numbers (specs/Promise.antt):
+// `finishes` has no `requires` and promises, for every slice of numbers (specs/Promise.antt):
 //   equality   its answer is the definition's, `answer` (specs/Table.antt, specs/Graph.antt), for refused tables too
 //   reason     it is a refusal at a place if and only if the condition for it holds (specs/Conditions.antt)
 //   waiting    an accepted table is answered. No task that takes at most its time ends after its finish, and those that take exactly their

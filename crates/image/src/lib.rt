@@ -1,6 +1,6 @@
 // image: judging a task image (document 01, 'The task image' and 'When no figure is given').
 //
-// `judge` takes any bytes, asks nothing of its caller and promises `Judging` of specs/Promise.antt: the verdict is the one that the
+// `judge` takes any bytes, has no `requires` and promises `Judging` of specs/Promise.antt: the verdict is the one that the
 // definition `judged` names, in the document's numbers and places too; an image is refused for a reason at a place if and only if the
 // condition of that row of the table holds there; and an accepted image keeps every rule of its rows, with the place of each node
 // beside the verdict. For a refused image the places are left free.
@@ -26,8 +26,8 @@ pub mod read;
 pub mod rows;
 mod weigh;
 
-// Why a caller gets no answer: the words of the papers' tables but 21, in one list. Judging answers the first nine; `Table` is for a caller that lends
-// a table, and of document 02 `Register`, `Busy` and `Forbidden` for calls to the arbiter (15 to 17), `Block` for one that edits a block (19).
+// Why there is no answer: the words of the papers' tables but 21, in one list. Judging answers the first nine; `Table` is for what lends a table,
+// and of document 02 `Register`, `Busy` and `Forbidden` for calls to the arbiter (15 to 17), `Block` for one that edits a block (19).
 pub enum Refusal {
     Cut,
     Tag,

@@ -57,7 +57,7 @@ pub fn length_ok(tag: usize, len: usize) -> bool
     }
 }
 
-// Are these numbers of a bus in the ranges of tag 1? Any numbers may be asked about: a reset of the arbiter passes on its caller's.
+// Are these numbers of a bus in the ranges of tag 1? Any numbers may be asked about: a reset of the arbiter passes on what it is given.
 pub fn bus_ok(cores: usize, slot: usize, core: usize) -> bool
     ensures { λ r. ⌜ r ≡ busOk cores slot core ⌝ }
 {
@@ -94,7 +94,7 @@ fn starts_ok(image: &[u8], place: usize, count: usize, period: usize) -> bool
     true
 }
 
-// May a plain block have these durations? Any numbers may be asked about: an edit's are its caller's, and need not fit two bytes.
+// May a plain block have these durations? Any numbers may be asked about: an edit's are as they are given, and need not fit two bytes.
 pub fn plain_ok(lowest: usize, highest: usize) -> bool
     ensures { λ r. ⌜ r ≡ plainOk lowest highest ⌝ }
 {

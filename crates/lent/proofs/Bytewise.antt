@@ -60,7 +60,7 @@ module _ (k : ℕ) (c : Call) (s lent : List ℕ) where
   unfolding arbiterCall
   with-room e a p o q call h = rw (e, ← p, ← q) h
 
--- ---- what the caller finds
+-- ---- what the program finds
 
 module _ (k : ℕ) (c : Call) (s lent : List ℕ) (status : ℕ) (exit found : List ℕ) (is : arbiterCall k c s lent ≡ (status, exit, found)) where
   module _ (h : Lends s lent) where

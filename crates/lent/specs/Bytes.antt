@@ -1,4 +1,4 @@
--- The arbiter's state as 51 bytes, for callers that lend bytes: cores, slot, offset, then length, flags and mask of cores 0 to 15.
+-- The arbiter's state as 51 bytes, for programs that lend bytes: cores, slot, offset, then length, flags and mask of cores 0 to 15.
 -- Definitions only.
 use mathlib.Core.List.{List, [], _∷_}
 use lib.ListN.{getD, drop}

@@ -1,6 +1,6 @@
--- Calls to the arbiter on the 51 bytes of its state (document 02, "The arbiter as a device", "Who may touch the arbiter"): what a caller from C
+-- Calls to the arbiter on the 51 bytes of its state (document 02, "The arbiter as a device", "Who may touch the arbiter"): what a program in C
 -- or Rust finds after a call, the status and both lent slices at exit. Definitions only; the state and the answer are `outcomeBy` of crate
--- `arbiter`.
+-- `callers`.
 --
 -- Statuses: 0 done, 1 refused, 2 the answer has fewer than 2 places or the state is not 51 bytes long. With 2 both keep their contents.
 use mathlib.Core.Path.{_≡_}
@@ -49,7 +49,7 @@ valueOf (Refused r place) = 0
 abbrev pub Lends : List ℕ → List ℕ → Type 0
 Lends state lent = (length state ≡ 51) × (2 ≤ length lent)
 
--- what the caller finds: a call that is refused says for what, and leaves every byte; any other is done, the answer has the value read, and the
+-- what the program finds: a call that is refused says for what, and leaves every byte; any other is done, the answer has the value read, and the
 -- bytes say the state that it leaves. Either status says so, and with less lent nothing is written
 pub record WholeCall (k : ℕ) (c : Call) (state lent : List ℕ) (status : ℕ) (exit found : List ℕ) : Type 0 where
   pub refused : Lends state lent → (r : Refusal) → RefusedBy k (stateOf state) c r

@@ -1,4 +1,4 @@
-// The state as 51 bytes, for callers that lend bytes: cores, slot, offset, then length, flags and mask of cores 0 to 15.
+// The state as 51 bytes, for programs that lend bytes: cores, slot, offset, then length, flags and mask of cores 0 to 15.
 ghost use mathlib.Core.Path.{_≡_};
 ghost use lib.ListN.{length, set};
 ghost use Prim.Native.Nat.{_+_, _≤_};

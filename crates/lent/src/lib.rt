@@ -2,12 +2,12 @@
 // made on the bytes of its state.
 //
 // `put`, `done` and `refuse` set an answer's first two places, the latter two with the status (specs/Answers.antt). `call` has no `requires`: the
-// status, the bytes and the answer at exit equal `arbiterCall` (specs/OnBytes.antt), which is `outcomeBy` of crate `arbiter` over the bytes, for
-// every caller and call, refused ones too, and every length of both slices; and `WholeCall` says what the caller finds when it is refused and
+// status, the bytes and the answer at exit equal `arbiterCall` (specs/OnBytes.antt), which is `outcomeBy` of crate `callers` over the bytes, for
+// every caller and call, refused ones too, and every length of both slices; and `WholeCall` says what the program finds when it is refused and
 // when done. Wrong answers that it rules out: a state of 50 bytes that is taken, a place that is told before its number, an answer of one place
 // that is written to.
-// Calls one after the other lead where `afterAllBy` of `arbiter` leads, behind a reset to reached states, and tell a core the same whatever other
-// cores call, so its laws hold of the bytes (`bytes-lead`, `bytes-reached`, `bytes-same-answers` in proofs/Bytewise.antt).
+// Calls one after the other lead where `afterAllBy` of `callers` leads, behind a reset to reached states, and tell a core the same whatever other
+// cores call, so the laws of both crates hold of the bytes (`bytes-lead`, `bytes-reached`, `bytes-same-answers` in proofs/Bytewise.antt).
 ghost use mathlib.Core.Path.{_≡_};
 ghost use mathlib.Core.List.{_∷_};
 ghost use Prim.Native.Nat.{_≤_};

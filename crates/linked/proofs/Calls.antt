@@ -125,7 +125,7 @@ module _ (s : List ℕ) (node lo hi : ℕ) (lent : List ℕ) where
   edit-call long r image e x q status found h =
       rw (le-ltb (length lent) 2 long, ← (e .image), ← (e .result), q) (ap (beside image) h)
 
-  -- what the caller finds
+  -- what the program finds
   pub whole-edit : ((i : ℕ) → byteAt s i < 256) → (status : ℕ) (image said : List ℕ) → editCall s node lo hi lent ≡ (status, image, said)
       → WholeEdit s node lo hi lent status image
   unfolding editCall
@@ -216,7 +216,7 @@ module _ (table before lent : List ℕ) where
           → finishesCall table before lent ≡ (1, filled, after)
       finishes-refused place after v q = rw (filled-is, q) (finishes-is (TableRefused place) v)
 
-  -- what the caller finds of an accepted table
+  -- what the program finds of an accepted table
   pub whole-finishes : (status : ℕ) (after said : List ℕ) → finishesCall table before lent ≡ (status, after, said) → WholeFinishes table before lent status after
   whole-finishes status after said e n ok room long =
       let q = sym e ∙ finishes-by (omega (arith, room)) (omega (arith, long)) _ (answer-given table n ok) in

@@ -1,4 +1,4 @@
--- What a caller from C or Rust finds after a call: the status and each lent slice at exit, over the image's bytes, or the task table's numbers,
+-- What a program in C or Rust finds after a call: the status and each lent slice at exit, over the image's bytes, or the task table's numbers,
 -- and the slices at entry. Definitions only; the verdict is `outcome` of crate `image`, the figures and the table `answer` and `tableAfter` of
 -- `figures`, the edit `change` and `imageAfter` and the preview `previewOf` and `previewTable` of `edits`, the finishes `answer` of `graph`. The
 -- arbiter's calls are in specs/OnBytes.antt of `lent`.
@@ -45,7 +45,7 @@ toldCall result filled table lent = cond (ltb (length lent) 3) (2, table, lent) 
 abbrev pub figuresCall : List ℕ → List ℕ → List ℕ → ℕ × List ℕ × List ℕ
 figuresCall image table lent = toldCall (answer image table) (tableAfter image table) table lent
 
--- demand 3 of the numbers that the caller finds
+-- demand 3 of the numbers that the program finds
 abbrev pub WholeFigures : List ℕ → ℕ → List ℕ → List ℕ → Type 0
 WholeFigures image status table found = (k : Task) → judged image ≡ Accepted k → status ≡ 0
     → WholeRuns (taskOf image k) (getD found 0 0) (getD found 1 0) (getD found 2 0) table
@@ -60,7 +60,7 @@ unfoldable pub editCall : List ℕ → ℕ → ℕ → ℕ → List ℕ → ℕ 
 editCall image node lowest highest lent =
     cond (ltb (length lent) 2) (2, image, lent) (beside (imageAfter image node lowest highest) (changedInto (change image node lowest highest) lent))
 
--- status 0 if and only if the edit is possible and there are places enough; the image that the caller then finds is such as `Leaves` says
+-- status 0 if and only if the edit is possible and there are places enough; the image that the program then finds is such as `Leaves` says
 pub record WholeEdit (image : List ℕ) (node lowest highest : ℕ) (lent : List ℕ) (status : ℕ) (after : List ℕ) : Type 0 where
   pub possible : status ≡ 0 → Editable image node lowest highest × (2 ≤ length lent)
   pub done : (e : Editable image node lowest highest) → 2 ≤ length lent → (status ≡ 0) × Leaves image (e .task) node lowest highest after
@@ -71,7 +71,7 @@ previewCall image node lowest highest table lent =
     toldCall (previewOf image node lowest highest table) (previewTable image node lowest highest table) table lent
 
 -- status 0 if and only if the edit is possible and there are places enough; then demand 3 holds of the edited image and the numbers that the
--- caller finds. Whatever the places, a possible edit's preview leaves what the figures of the edited image would
+-- program finds. Whatever the places, a possible edit's preview leaves what the figures of the edited image would
 pub record WholePreview (image : List ℕ) (node lowest highest : ℕ) (before lent : List ℕ) (status : ℕ) (table found : List ℕ) : Type 0 where
   pub possible : status ≡ 0 → (e : Editable image node lowest highest) × (periodOf (e .task) ≤ length before) × (3 ≤ length lent)
   pub given : (e : Editable image node lowest highest) → periodOf (e .task) ≤ length before → 3 ≤ length lent → (status ≡ 0)
@@ -88,7 +88,7 @@ unfoldable pub finishesCall : List ℕ → List ℕ → List ℕ → ℕ × List
 finishesCall table before lent =
     cond (ltb (length lent) 2) (2, before, lent) (cond (ltb (length before) 64) (2, before, lent) (finishesInto (finishesAnswer table) before lent))
 
--- an accepted table with places enough is answered, and the finishes that the caller finds are such as `Finishing` says
+-- an accepted table with places enough is answered, and the finishes that the program finds are such as `Finishing` says
 abbrev pub WholeFinishes : List ℕ → List ℕ → List ℕ → ℕ → List ℕ → Type 0
 WholeFinishes table before lent status after = (n : ℕ) → AcceptedTable table n → 64 ≤ length before → 2 ≤ length lent
     → (status ≡ 0) × Finishing table n after

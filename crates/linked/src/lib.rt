@@ -10,10 +10,10 @@
 //   slotfigures_finishes  `finishesCall`; ruled out: another number than 21, finishes of fewer than 64 places that are written to
 //   slotfigures_arbiter_reset, _tick, _write, _read, _line
 //                         `arbiterCall` of that caller and call; ruled out: a state of 50 bytes that is taken, the core named in the caller's place
-// The numbers are those of `image::judge`, `figures::figures`, `edits::edit`, `edits::preview`, `graph::finishes` and the calls of `arbiter`,
-// whose promises hold of them. Of the places that the caller reads, `WholeFigures` and `WholePreview` repeat demand 3, `WholeEdit` what an edit
+// The numbers are those of `image::judge`, `figures::figures`, `edits::edit`, `edits::preview`, `graph::finishes` and the calls of `callers`,
+// whose promises hold of them. Of the places that a program reads, `WholeFigures` and `WholePreview` repeat demand 3, `WholeEdit` what an edit
 // leaves, and `WholeFinishes` what finishes say of all starts, ends and whole runs. Calls to the arbiter one after the other lead where
-// `afterAllBy` of `arbiter` leads, so its laws hold of the bytes (`bytes-lead` in crates/lent/proofs/Bytewise.antt).
+// `afterAllBy` of `callers` leads, so its laws and those of `arbiter` hold of the bytes (`bytes-lead` in crates/lent/proofs/Bytewise.antt).
 ghost use mathlib.Core.Path.{_≡_};
 ghost use Prim.Native.Nat.{_≤_};
 ghost use lib.ListN.{length};

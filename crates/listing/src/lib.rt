@@ -1,6 +1,6 @@
 // listing: from an image to the bytes that the program `figure` writes (document 01, "The program `figure` reads").
 //
-// `listing` asks nothing of its caller and promises that the answer and the buffer at exit equal a definition over the image's bytes
+// `listing` has no `requires` and promises that the answer and the buffer at exit equal a definition over the image's bytes
 // and the buffer at entry: the listing of specs/Listings.antt at the buffer's start and the rest unchanged, or, where the buffer has
 // fewer than 8,192 bytes, `Short` and no change. The program above it only reads and writes.
 ghost use mathlib.Core.Path.{_≡_};
