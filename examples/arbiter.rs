@@ -16,13 +16,6 @@ const STARRED: [(u64, u64, &[u64]); 3] = [
     (0, 5, &[0, 1]),
 ];
 
-// What a write of a core above 15 is refused with: there is no handle that could make it.
-const FORBIDDEN: Refusal = Refusal {
-    number: 17,
-    word: "forbidden",
-    place: 0,
-};
-
 // A word that is a decimal number of 64 bits, without a sign.
 fn number(word: OsString) -> Option<u64> {
     let word = word.to_str()?;
@@ -52,8 +45,7 @@ fn taken(core: Core, workshop: Workshop, length: u64) -> Result<u64, Refusal> {
 // The line of an access.
 fn line(cores: u64, slot: u64, core: u64, length: u64, offset: u64) -> Result<String, Refusal> {
     let arbiter = at(cores, slot, offset)?;
-    let caller = arbiter.core(core).ok_or(FORBIDDEN)?;
-    let ticks = taken(caller, arbiter.workshop(), length)?;
+    let ticks = taken(arbiter.core(core)?, arbiter.workshop(), length)?;
     let wait = ticks - length;
     Ok(format!("core {core}, length {length}, from offset {offset}: waits {wait}, done after {ticks} ticks"))
 }

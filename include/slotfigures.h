@@ -139,7 +139,7 @@ uint64_t slotfigures_finishes(const uint64_t *table, size_t table_length, uint64
  * for p from 0 to 15. A state is well formed if each of these numbers is as said here, those of unused cores (p not below cores) too. A
  * reset makes one of any 51 bytes; every other call refuses a state that is not well formed (15), and keeps a well formed one so.
  *
- * Each call names its caller, and that decides what it may:
+ * Each call names its caller, and that decides what it may do:
  *   0 to 15      the core of that number, whatever the bus: reads and writes its own registers and reads its own line
  *   16           the workshop: reads the registers and the line of every core, ticks and resets; it writes no register
  * All else is refused with 17, whatever the state: 17 goes by the caller, the core and the function, not by register or value. So core 9 of a

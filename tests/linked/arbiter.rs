@@ -19,7 +19,7 @@ fn refused(r: Refusal) -> Result<String, String> {
 // What a call gives that is made through its caller's handle; none, if that cannot make it.
 fn through(arbiter: &Arbiter, kind: &str, n: &[u64]) -> Option<Result<u64, Refusal>> {
     let workshop = arbiter.workshop();
-    let own = |caller: &u64, core: &u64| arbiter.core(*caller).filter(|_| caller == core);
+    let own = |caller: &u64, core: &u64| arbiter.core(*caller).ok().filter(|_| caller == core);
     match (kind, n) {
         ("t", [16]) => Some(workshop.tick().map(|()| 0)),
         ("r", [16, core, register]) => Some(workshop.read(*core, *register)),
@@ -40,13 +40,15 @@ fn made(arbiter: &Arbiter, call: &str) -> Result<String, String> {
     let mut items = call.split('/');
     let kind = items.next().expect("a call");
     let n: Vec<u64> = items.map(|n| n.parse().expect("a number")).collect();
-    let shown = arbiter.core(n[0]).map(|core| format!("{core:?}"));
-    if shown.is_some_and(|shown| shown != format!("Core({})", n[0])) {
-        return Err(format!(
-            "{kind}: a core's handle shows more than its number"
-        ));
-    }
     let before = arbiter.bytes();
+    let shown = arbiter.core(n[0]).map(|core| format!("{core:?}"));
+    let expected = match n[0] {
+        0..=15 => format!("Ok(\"Core({})\")", n[0]),
+        _ => "Err(Refusal { number: 17, word: \"forbidden\", place: 0 })".to_string(),
+    };
+    if format!("{shown:?}") != expected || arbiter.bytes() != before {
+        return Err(format!("{kind}: the handle is {shown:?}"));
+    }
     let Some(given) = through(arbiter, kind, &n) else {
         return Ok("untyped".to_string());
     };

@@ -146,8 +146,8 @@ impl Task<'_> {
 /// Why nothing is given: the number, its word and its place. The numbers 1 to 10 are told of an image, and the place is a byte position or,
 /// for 7 to 10, the image's length. Of a change, 19 is told of a node that does not exist or is no plain block, and the place is the image's
 /// length; 5 also of durations out of range, and the place is that of the block's field. 15 and 16 are told of an [`Arbiter`], and the place
-/// is 0; 17 would be told of a call that its caller may not make, which no handle can say. 21 is told of a table of tasks, and the place is
-/// the index of an entry, or 0 for the table's size.
+/// is 0; 17 is told of a core above 15 that asks for a handle, and of no call of a handle. 21 is told of a table of tasks, and the place is the
+/// index of an entry, or 0 for the table's size.
 #[derive(Clone, Copy, Debug, PartialEq, Eq)]
 pub struct Refusal {
     pub number: u64,
@@ -320,7 +320,7 @@ pub fn finishes(tasks: &[Task]) -> Result<[u64; MOST_TASKS], Refusal> {
 ///
 /// Its owner keeps it and gives out handles, which make every call: a [`Core`] reads and writes its own registers and reads its own line, the
 /// [`Workshop`] reads everything, ticks and resets. Those of one arbiter may be held side by side; none leads to another, or to the arbiter. Each
-/// names its own caller and can say no call that this caller may not make, so 17 is never answered. Handles stay in the arbiter's thread: one
+/// names its own caller and can say no call that this caller may not make, so none is ever answered 17. Handles stay in the arbiter's thread: one
 /// call is made at a time.
 ///
 /// Proved of states reached by calls from a reset: a length written at offset o is done after wait + length ticks and no sooner, if no reset
@@ -353,7 +353,7 @@ impl Arbiter {
     /// Flags: its access has run; until the next length is written, or a reset.
     pub const DONE: u64 = 4;
 
-    // The caller that is no core; those below it are.
+    // The caller that is no core.
     const WORKSHOP: u64 = 16;
 
     /// An arbiter after a reset; or why that is refused, as by [`Workshop::reset`].
@@ -378,13 +378,18 @@ impl Arbiter {
         self.state.get()
     }
 
-    /// The handle of a core, 0 to 15, whatever the bus: one that the bus does not use may call too, and is refused (15). There is none for a
-    /// number above 15.
-    pub fn core(&self, number: u64) -> Option<Core<'_>> {
-        (number < Self::WORKSHOP).then_some(Core(Caller {
+    /// The handle of a core, 0 to 15, whatever the bus: one that the bus does not use may call too, and is refused (15). Refused (17): a number
+    /// above 15.
+    pub fn core(&self, number: u64) -> Result<Core<'_>, Refusal> {
+        let core = Core(Caller {
             arbiter: self,
             number,
-        }))
+        });
+        // a write to the flags changes nothing: it is refused to a core with 15, and to no core with 17
+        match core.write(Self::FLAGS, 0) {
+            Err(refusal) if refusal.number == 17 => Err(refusal),
+            _ => Ok(core),
+        }
     }
 
     /// The handle of the workshop.

@@ -1,4 +1,4 @@
--- What the functions of a tick ask of each other; no caller needs it. Definitions only.
+-- What the functions of a tick ask of each other; no other crate needs it. Definitions only.
 use Prim.Native.Nat.{ℕ, _≤_, _<_}
 use Rattle.bus.specs.declared.Bus.{Bus}
 

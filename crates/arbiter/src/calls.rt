@@ -1,6 +1,6 @@
-// Each entry's call, with the state by value: the outcome is the state after it and the answer.
+// Each kind of call, with the state by value: the outcome is the state after it and the answer.
 ghost use mathlib.Core.Path.{_≡_};
-ghost use Prim.Native.Nat.{_≤_, _<_};
+ghost use Prim.Native.Nat.{_<_};
 ghost use Rattle.arbiter.specs.Device.{registerAt, lineOf, writable, busy};
 ghost use Rattle.arbiter.specs.declared.Call.the-variants.{Read, Line, Write, Tick, Reset};
 ghost use Rattle.arbiter.specs.Calls.{outcome, written, tell, leave};
@@ -115,7 +115,7 @@ fn store(s: Arbiter, core: usize, register: usize, value: u8) -> Outcome
     accept(with_registers(s, core, masked))
 }
 
-pub fn on_read(s: Arbiter, core: usize, register: usize) -> Outcome
+fn on_read(s: Arbiter, core: usize, register: usize) -> Outcome
     ensures { λ o. ⌜ o ≡ outcome (Read core register) s ⌝ }
 {
     if !core_ok(s, core) {
@@ -127,7 +127,7 @@ pub fn on_read(s: Arbiter, core: usize, register: usize) -> Outcome
     tell_value(register_value(register, registers_at(s, core)), s)
 }
 
-pub fn on_line(s: Arbiter, core: usize) -> Outcome
+fn on_line(s: Arbiter, core: usize) -> Outcome
     ensures { λ o. ⌜ o ≡ outcome (Line core) s ⌝ }
 {
     if !core_ok(s, core) {
@@ -136,7 +136,7 @@ pub fn on_line(s: Arbiter, core: usize) -> Outcome
     tell_value(line_value(registers_at(s, core)), s)
 }
 
-pub fn on_write(s: Arbiter, core: usize, register: usize, value: usize) -> Outcome
+fn on_write(s: Arbiter, core: usize, register: usize, value: usize) -> Outcome
     ensures { λ o. ⌜ o ≡ outcome (Write core register value) s ⌝ }
 {
     if !core_ok(s, core) {
@@ -148,7 +148,7 @@ pub fn on_write(s: Arbiter, core: usize, register: usize, value: usize) -> Outco
     store(s, core, register, value as u8)
 }
 
-pub fn on_tick(s: Arbiter) -> Outcome
+fn on_tick(s: Arbiter) -> Outcome
     ensures { λ o. ⌜ o ≡ outcome Tick s ⌝ }
 {
     if !state_ok(s) {
@@ -157,7 +157,7 @@ pub fn on_tick(s: Arbiter) -> Outcome
     accept(ticked_state(s))
 }
 
-pub fn on_reset(s: Arbiter, cores: usize, slot: usize) -> Outcome
+fn on_reset(s: Arbiter, cores: usize, slot: usize) -> Outcome
     ensures { λ o. ⌜ o ≡ outcome (Reset cores slot) s ⌝ }
 {
     if !image::rows::bus_ok(cores, slot, 0) {

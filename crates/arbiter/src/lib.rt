@@ -34,7 +34,7 @@ pub struct Arbiter {
     pub registers: [Registers; 16],
 }
 
-// A call: what an entry is asked.
+// A call to the arbiter.
 pub enum Call {
     // a core's register; a core's interrupt line
     Read(usize, usize),

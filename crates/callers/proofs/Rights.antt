@@ -1,4 +1,5 @@
--- Who has the right to a call, and that a caller's call is refused if and only if the condition for it holds, with 17 before 15 and 16.
+-- Who has the right to a call; that a caller's call is refused if and only if the condition for it holds, with 17 before 15 and 16; and that calls
+-- with callers lead where the permitted ones lead.
 use mathlib.Core.Path.{_≡_, refl, sym, _∙_, ap, subst}
 use mathlib.Core.Bool.{Bool, true, false, cond, _||_, false≢true}
 use mathlib.Core.List.{List, [], _∷_}
@@ -16,11 +17,12 @@ use Rattle.arbiter.specs.declared.Reply.{Reply}
 use Rattle.arbiter.specs.declared.Reply.the-variants.{Refused}
 use Rattle.arbiter.specs.declared.Call.{Call}
 use Rattle.arbiter.specs.declared.Call.the-variants.{Read, Line, Write, Tick, Reset}
+use Rattle.arbiter.specs.Device.{sized}
 use Rattle.arbiter.specs.Calls.{outcome, refuse, after, afterAll}
 use Rattle.callers.specs.Callers.{isOwn, isWorkshop, hasRight, outcomeBy, afterBy, answerBy, Asked, afterAllBy, permitted}
-use Rattle.callers.specs.Conditions.{Right, own-register, own-line, own-write, every-register, every-line, ticks, resets, RefusedBy, forbidden, despite-right}
+use Rattle.callers.specs.Conditions.{Right, own-register, own-line, own-write, every-register, every-line, workshop-ticks, workshop-resets, RefusedBy, forbidden, despite-right}
 use Rattle.callers.specs.Promise.{Answers}
-use Rattle.arbiter.specs.Sequences.{Reached}
+use Rattle.arbiter.specs.Sequences.{Reached, fresh}
 use Rattle.arbiter.proofs.Tests.{and-left, and-right, and-both}
 use Rattle.arbiter.proofs.Reasons.{refused-because, refused-whenever}
 use Rattle.arbiter.proofs.Kept.{sixteen}
@@ -52,8 +54,8 @@ unfolding hasRight
 right-if k (Read p n) e = reader k p (Read p n) every-register (λ l i. subst (λ (q : ℕ). Right k (Read q n)) i (own-register l)) e
 right-if k (Line p) e = reader k p (Line p) every-line (λ l i. subst (λ (q : ℕ). Right k (Line q)) i (own-line l)) e
 right-if k (Write p n v) e = let o = own-is k p e in subst (λ (q : ℕ). Right k (Write q n v)) (o .1) (own-write (o .0))
-right-if k Tick e = the-workshop k Tick ticks e
-right-if k (Reset cores slot) e = the-workshop k (Reset cores slot) resets e
+right-if k Tick e = the-workshop k Tick workshop-ticks e
+right-if k (Reset cores slot) e = the-workshop k (Reset cores slot) workshop-resets e
 
 own-reads : (k : ℕ) → k < 16 → isWorkshop k || isOwn k k ≡ true
 own-reads k l = ap (λ (t : Bool). t || isOwn k k) (ne-eqb k 16 (λ e. omega arith)) ∙ is-own k l
@@ -65,8 +67,8 @@ if-right k c (own-line l) = own-reads k l
 if-right k c (own-write l) = is-own k l
 if-right k c every-register = refl
 if-right k c every-line = refl
-if-right k c ticks = refl
-if-right k c resets = refl
+if-right k c workshop-ticks = refl
+if-right k c workshop-resets = refl
 
 -- ---- a caller's call
 
@@ -109,7 +111,7 @@ module _ (k : ℕ) (c : Call) (a : Arbiter) where
       (λ t. ap (λ (o : Outcome). length (o .state .registers)) (with-right t) ∙ sixteen c a e)
       (λ t. ap (λ (o : Outcome). length (o .state .registers)) (without-right t) ∙ e)
 
--- what the entry promises, of the outcome that the caller's call has
+-- what an entry promises, of the outcome that the caller's call has
 pub promised : (k : ℕ) (c : Call) (a : Arbiter) (o : Outcome) → o ≡ outcomeBy k c a → Answers k c a (o .state) (o .reply)
 promised k c a o e =
     subst (λ (u : Outcome). Answers k c a (u .state) (u .reply)) (sym e) (record { answers = refl; leaves = refl; because = because k c a; whenever = whenever k c a })
@@ -126,6 +128,13 @@ permitted-lead (x ∷ xs) a =
     (λ t. ap to (with-right (x .caller) (x .call) a t) ∙ rw t (permitted-lead xs (after (x .call) a)))
     (λ t. ap to (without-right (x .caller) (x .call) a t) ∙ rw t (permitted-lead xs a))
 
+-- the workshop's reset is a reset
+pub reset-by : (cores slot : ℕ) (a : Arbiter) → afterBy 16 (Reset cores slot) a ≡ after (Reset cores slot) a
+reset-by cores slot a = ap (λ (o : Outcome). o .state) (with-right 16 (Reset cores slot) a (if-right 16 (Reset cores slot) workshop-resets))
+
 -- .. those about reached states too
 pub reached-by : (xs : List Asked) {a : Arbiter} → Reached a → Reached (afterAllBy xs a)
 reached-by xs {a} r = subst Reached (sym (permitted-lead xs a)) (reached-all (permitted xs) r)
+
+pub reached-from : (cores slot : ℕ) (xs : List Asked) (a : Arbiter) → sized cores slot ≡ true → Reached (afterAllBy xs (afterBy 16 (Reset cores slot) a))
+reached-from cores slot xs a z = reached-by xs (subst Reached (sym (reset-by cores slot a)) (fresh a cores slot z))

@@ -1,4 +1,4 @@
--- What a core is answered goes by its own calls and the workshop's ticks and resets alone: what other callers do is unseen.
+-- What a core is answered goes by its own calls and the workshop's ticks and resets alone: all other calls are unseen.
 use mathlib.Core.Path.{_≡_, refl, sym, _∙_, ap, ap₂, subst}
 use mathlib.Core.Bool.{Bool, true, false, cond, _&&_, false≢true}
 use mathlib.Core.List.{List, [], _∷_}
@@ -16,11 +16,11 @@ use Rattle.arbiter.specs.declared.Reply.{Reply}
 use Rattle.arbiter.specs.Device.{sized, cleared}
 use Rattle.arbiter.specs.Calls.{outcome, after, answer, refuse}
 use Rattle.callers.specs.Callers.{hasRight, outcomeBy, afterBy, answerBy, Asked, answersTo, drives, concernsBy, concerningBy}
-use Rattle.callers.specs.Conditions.{Right, own-register, own-line, own-write, every-register, every-line, ticks, resets}
+use Rattle.callers.specs.Conditions.{Right, own-register, own-line, own-write, every-register, every-line, workshop-ticks, workshop-resets}
 use Rattle.arbiter.proofs.Tests.{or-right, or-first, same}
 use Rattle.arbiter.proofs.Kept.{read-leaves, line-leaves, reset-leaves}
 use Rattle.arbiter.proofs.Apart.{Same, same-refl, same-trans, same-sym, same-path, other, each, read-same, line-same, write-same}
-use Rattle.callers.proofs.Rights.{right-if, if-right, with-right, without-right}
+use Rattle.callers.proofs.Rights.{right-if, with-right, without-right, reset-by}
 
 -- a caller's call has the outcome of the call, or leaves the state and answers 17
 by-right {ℓ} : (P : Outcome → Outcome → Type ℓ) (j : ℕ) (c : Call) (a b : Arbiter)
@@ -37,8 +37,8 @@ told-right k c a b core s (own-line l) = line-same k a b s
 told-right k c a b core s (own-write l) = write-same k _ _ a b s
 told-right k c a b core s every-register = absurd (omega arith)
 told-right k c a b core s every-line = absurd (omega arith)
-told-right k c a b core s ticks = absurd (omega arith)
-told-right k c a b core s resets = absurd (omega arith)
+told-right k c a b core s workshop-ticks = absurd (omega arith)
+told-right k c a b core s workshop-resets = absurd (omega arith)
 
 module _ (k : ℕ) where
   -- a call that is not core k's own, and no tick or reset of the workshop
@@ -48,8 +48,8 @@ module _ (k : ℕ) where
   unseen-right j c a n d (own-write l) = other k c a (ne-eqb j k n)
   unseen-right j c a n d every-register = same-path (read-leaves _ _ a)
   unseen-right j c a n d every-line = same-path (line-leaves _ a)
-  unseen-right j c a n d ticks = absurd (false≢true (sym (d refl)))
-  unseen-right j c a n d resets = absurd (false≢true (sym (d refl)))
+  unseen-right j c a n d workshop-ticks = absurd (false≢true (sym (d refl)))
+  unseen-right j c a n d workshop-resets = absurd (false≢true (sym (d refl)))
 
   own-concerns : (x : Asked) → x .caller ≡ k → concernsBy k x ≡ false → ⊥
   unfolding concernsBy
@@ -74,8 +74,8 @@ module _ (k : ℕ) where
   both-right j c a b s (own-line l) = same-trans (same-path (line-leaves j a)) (same-trans s (same-path (sym (line-leaves j b))))
   both-right j c a b s every-register = same-trans (same-path (read-leaves _ _ a)) (same-trans s (same-path (sym (read-leaves _ _ b))))
   both-right j c a b s every-line = same-trans (same-path (line-leaves _ a)) (same-trans s (same-path (sym (line-leaves _ b))))
-  both-right j c a b s ticks = each k c a b refl s
-  both-right j c a b s resets = each k c a b refl s
+  both-right j c a b s workshop-ticks = each k c a b refl s
+  both-right j c a b s workshop-resets = each k c a b refl s
 
   both-leave : (j : ℕ) (c : Call) (a b : Arbiter) → Same k a b → Same k (afterBy j c a) (afterBy j c b)
   both-leave j c a b s = by-right (λ (o u : Outcome). Same k (o .state) (u .state)) j c a b (both-right j c a b s) s
@@ -115,4 +115,4 @@ pub same-answers : (k : ℕ) → k < 16 → (cores slot : ℕ) → sized cores s
 same-answers k core cores slot z a b xs ys e = equal-answers k core xs ys _ _ e (same-path (fresh-state a ∙ sym (fresh-state b)))
   where
     fresh-state : (d : Arbiter) → afterBy 16 (Reset cores slot) d ≡ cleared cores slot
-    fresh-state d = ap (λ (o : Outcome). o .state) (with-right 16 (Reset cores slot) d (if-right 16 (Reset cores slot) resets)) ∙ reset-leaves cores slot d z
+    fresh-state d = reset-by cores slot d ∙ reset-leaves cores slot d z

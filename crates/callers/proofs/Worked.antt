@@ -29,7 +29,7 @@ record Worked : Type 0 where
   no-writer : (answerBy 16 (Write 0 2 1) waiting ≡ Refused Forbidden 0) × (answerBy 16 (Write 16 0 1) waiting ≡ Refused Forbidden 0)
   -- a caller above 16: nothing, of its own number neither
   no-caller : (answerBy 17 (Read 17 0) waiting ≡ Refused Forbidden 0) × (answerBy 17 Tick waiting ≡ Refused Forbidden 0) × (answerBy 17 (Write 17 0 1) waiting ≡ Refused Forbidden 0)
-  -- a core number is 0 to 15, whatever the bus: with the right, 15; so do the workshop's reads
+  -- a core number is 0 to 15, whatever the bus: with the right, 15; the workshop's reads too
   beyond-bus : (answerBy 9 (Read 9 0) waiting ≡ Refused Register 0) × (answerBy 16 (Read 9 0) waiting ≡ Refused Register 0) × (answerBy 16 (Line 17) waiting ≡ Refused Register 0)
   -- 17 before 15, of a register, a value, a reset's numbers and the state; and before 16
   forbidden-first : (answerBy 1 (Read 0 3) waiting ≡ Refused Forbidden 0) × (answerBy 1 (Write 0 0 6) waiting ≡ Refused Forbidden 0) × (answerBy 0 (Reset 1 5) waiting ≡ Refused Forbidden 0) × (answerBy 0 Tick (with-core 15 0 0 2) ≡ Refused Forbidden 0)

@@ -29,7 +29,7 @@ hasRight k (Write p n v) = isOwn k p
 hasRight k Tick = isWorkshop k
 hasRight k (Reset cores slot) = isWorkshop k
 
--- "17 forbidden", "judged before 15, place 0; the state is unchanged". With the right, the call is what it is
+-- "17 forbidden", "judged before 15, place 0; the state is unchanged". With the right, `outcome` of the call
 unfoldable pub outcomeBy : ℕ → Call → Arbiter → Outcome
 outcomeBy k c a = cond (hasRight k c) (outcome c a) (refuse Forbidden a)
 

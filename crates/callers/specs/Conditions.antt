@@ -15,8 +15,8 @@ pub data Right : ℕ → Call → Type 0 where
   own-write : {k n v : ℕ} → k < 16 → Right k (Write k n v)
   every-register : {p n : ℕ} → Right 16 (Read p n)
   every-line : {p : ℕ} → Right 16 (Line p)
-  ticks : Right 16 Tick
-  resets : {cores slot : ℕ} → Right 16 (Reset cores slot)
+  workshop-ticks : Right 16 Tick
+  workshop-resets : {cores slot : ℕ} → Right 16 (Reset cores slot)
 
 -- for what a call is refused to its caller
 pub data RefusedBy (k : ℕ) (a : Arbiter) : Call → Refusal → Type 0 where

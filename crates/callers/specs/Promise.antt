@@ -1,4 +1,4 @@
--- What the entry promises, over the lent state at entry and at exit and the answer. Definitions only.
+-- What the five entries promise, over the lent state at entry and at exit and the answer. Definitions only.
 use mathlib.Core.Path.{_≡_}
 use Prim.Native.Nat.{ℕ}
 use Rattle.image.specs.declared.Refusal.{Refusal}

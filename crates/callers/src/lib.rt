@@ -69,32 +69,32 @@ pub fn asked(s: Arbiter, caller: usize, c: Call) -> Outcome
     on(s, c)
 }
 
-// The same for each kind of call: the entry of its name copies the state out, calls it and stores what it leaves.
-pub fn read_by(s: Arbiter, caller: usize, core: usize, register: usize) -> Outcome
+// `asked` of one kind of call each; the entry without `_by` copies the state out, calls this and stores the state that it leaves.
+fn read_by(s: Arbiter, caller: usize, core: usize, register: usize) -> Outcome
     ensures { λ o. ⌜ o ≡ outcomeBy caller (Read core register) s ⌝ }
 {
     asked(s, caller, Call::Read(core, register))
 }
 
-pub fn line_by(s: Arbiter, caller: usize, core: usize) -> Outcome
+fn line_by(s: Arbiter, caller: usize, core: usize) -> Outcome
     ensures { λ o. ⌜ o ≡ outcomeBy caller (Line core) s ⌝ }
 {
     asked(s, caller, Call::Line(core))
 }
 
-pub fn write_by(s: Arbiter, caller: usize, core: usize, register: usize, value: usize) -> Outcome
+fn write_by(s: Arbiter, caller: usize, core: usize, register: usize, value: usize) -> Outcome
     ensures { λ o. ⌜ o ≡ outcomeBy caller (Write core register value) s ⌝ }
 {
     asked(s, caller, Call::Write(core, register, value))
 }
 
-pub fn tick_by(s: Arbiter, caller: usize) -> Outcome
+fn tick_by(s: Arbiter, caller: usize) -> Outcome
     ensures { λ o. ⌜ o ≡ outcomeBy caller Tick s ⌝ }
 {
     asked(s, caller, Call::Tick)
 }
 
-pub fn reset_by(s: Arbiter, caller: usize, cores: usize, slot: usize) -> Outcome
+fn reset_by(s: Arbiter, caller: usize, cores: usize, slot: usize) -> Outcome
     ensures { λ o. ⌜ o ≡ outcomeBy caller (Reset cores slot) s ⌝ }
 {
     asked(s, caller, Call::Reset(cores, slot))

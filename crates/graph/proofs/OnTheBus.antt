@@ -90,7 +90,7 @@ module _ (s : List ℕ) (P : ℕ) (h : Starts s P P) where
   start-is : (i : ℕ) → i < P → byteAt s (9 + i) ≡ i
   start-is i l = omega (arith, no-lower i l, no-higher (P - i - 1) i (omega arith))
 
--- how a caller sees it in the bytes: an accepted image with as many starts as its period has offsets lists every offset
+-- how it is seen in the bytes in the bytes: an accepted image with as many starts as its period has offsets lists every offset
 pub lists-every : (s : List ℕ) (k : Kept) → judged s ≡ Accepted k → wordAt s 7 ≡ periodOf k → EveryOffset (taskOf s k)
 unfolding equal
 lists-every s k e full o l =

@@ -1,4 +1,4 @@
--- What the functions of the crate promise each other; no caller needs it. Definitions only.
+-- What the functions of the crate promise each other; no other crate needs it. Definitions only.
 use mathlib.Core.Path.{_≡_}
 use mathlib.Core.Bool.{true, false}
 use mathlib.Core.List.{List}

@@ -1,4 +1,4 @@
--- What the functions of this crate promise each other; no caller needs it. Definitions only.
+-- What the functions of this crate promise each other; no other crate needs it. Definitions only.
 use mathlib.Core.Path.{_≡_}
 use mathlib.Core.List.{List}
 use Prim.Native.Nat.{ℕ, _+_, _*_, _≤_, _<_, min}

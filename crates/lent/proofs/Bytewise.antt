@@ -14,10 +14,10 @@ use Rattle.arbiter.specs.declared.Call.{Call}
 use Rattle.arbiter.specs.Calls.{after, answer}
 use Rattle.callers.specs.Callers.{outcomeBy, afterBy, answerBy, afterAllBy, answersTo, concerningBy}
 use Rattle.arbiter.specs.Device.{sized}
-use Rattle.callers.specs.Conditions.{RefusedBy, resets}
-use Rattle.arbiter.specs.Sequences.{Reached, fresh}
+use Rattle.callers.specs.Conditions.{RefusedBy}
+use Rattle.arbiter.specs.Sequences.{Reached}
 use Rattle.arbiter.specs.declared.Call.the-variants.{Reset}
-use Rattle.callers.proofs.Rights.{promised, not-refused, sixteen-by, if-right, with-right, reached-by}
+use Rattle.callers.proofs.Rights.{promised, not-refused, sixteen-by, reached-from}
 use Rattle.callers.proofs.Unseen.{same-answers}
 use Rattle.runs.proofs.Cases.{either}
 use Rattle.lent.proofs.Packing.{state-again, there-and-back, bytes-length, cores-length}
@@ -27,7 +27,7 @@ use Rattle.arbiter.specs.declared.Outcome.{Outcome}
 use Rattle.arbiter.specs.declared.Reply.{Reply}
 use Rattle.arbiter.specs.declared.Reply.the-variants.{Accepted, Value, Refused}
 use Rattle.lent.specs.Answers.{doneInto, refusedInto, beside}
-use Rattle.lent.specs.OnBytes.{repliedInto, room, arbiterInto, arbiterCall, valueOf, Lends, WholeCall, Lending, calledOn, bytesAfter, askedOf, AllMade, toldOf, toldTo}
+use Rattle.lent.specs.OnBytes.{repliedInto, room, arbiterInto, arbiterCall, valueOf, Lends, WholeCall, Lending, resetOf, calledOn, bytesAfter, askedOf, AllMade, toldOf, toldTo}
 
 module _ (lent : List ℕ) (r : Reply) where
   pub replied-accepted : (call : ℕ × List ℕ) → r ≡ Accepted → doneInto lent ≡ call → repliedInto r lent ≡ call
@@ -182,21 +182,12 @@ bytes-lead (x ∷ xs) s m e =
     bytes-lead xs (calledOn x s .1) (m .1) (call-long x s (e, m .0))
     ∙ ap (afterAllBy (askedOf xs)) (call-leads x s (e, m .0))
 
--- the workshop's reset, with an answer lent to it
-abbrev pub resetOf : ℕ → ℕ → List ℕ → Lending
-resetOf cores slot lent = record { asked = record { caller = 16; call = Reset cores slot }; lent = lent }
-
-module _ (cores slot : ℕ) (z : sized cores slot ≡ true) where
-  reset-by : (a : Arbiter) → afterBy 16 (Reset cores slot) a ≡ after (Reset cores slot) a
-  reset-by a = ap (λ (o : Outcome). o .state) (with-right 16 (Reset cores slot) a (if-right 16 (Reset cores slot) resets))
-
-  -- behind a reset that is accepted they are reached states: every law of `arbiter` about those holds of them
-  pub bytes-reached : (lent : List ℕ) (xs : List Lending) (s : List ℕ) → 2 ≤ length lent → AllMade xs → length s ≡ 51
-      → Reached (stateOf (bytesAfter (resetOf cores slot lent ∷ xs) s))
-  unfolding afterAllBy askedOf
-  bytes-reached lent xs s h m e =
-      subst Reached (sym (bytes-lead (resetOf cores slot lent ∷ xs) s (h, m) e))
-      (reached-by (askedOf xs) (subst Reached (sym (reset-by (stateOf s))) (fresh (stateOf s) cores slot z)))
+-- behind a reset that is accepted they are reached states: every law of `arbiter` about those holds of them
+pub bytes-reached : (cores slot : ℕ) (lent : List ℕ) (xs : List Lending) (s : List ℕ) → sized cores slot ≡ true → 2 ≤ length lent → AllMade xs → length s ≡ 51
+    → Reached (stateOf (bytesAfter (resetOf cores slot lent ∷ xs) s))
+unfolding afterAllBy askedOf
+bytes-reached cores slot lent xs s z h m e =
+    subst Reached (sym (bytes-lead (resetOf cores slot lent ∷ xs) s (h, m) e)) (reached-from cores slot (askedOf xs) (stateOf s) z)
 
 -- ---- what a core is told
 

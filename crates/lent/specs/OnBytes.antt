@@ -12,6 +12,7 @@ use Prim.Native.Nat.{ℕ, _≤_}
 use Rattle.image.specs.Judged.{numberOf}
 use Rattle.image.specs.declared.Refusal.{Refusal}
 use Rattle.arbiter.specs.declared.Call.{Call}
+use Rattle.arbiter.specs.declared.Call.the-variants.{Reset}
 use Rattle.arbiter.specs.Calls.{after, answer}
 use Rattle.callers.specs.Callers.{outcomeBy, Asked}
 use Rattle.callers.specs.Conditions.{RefusedBy}
@@ -67,7 +68,11 @@ pub record Lending : Type 0 where
   pub asked : Asked
   pub lent : List ℕ
 
--- the status, the bytes and the answer that it leaves
+-- the workshop's reset
+abbrev pub resetOf : ℕ → ℕ → List ℕ → Lending
+resetOf cores slot lent = record { asked = record { caller = 16; call = Reset cores slot }; lent = lent }
+
+-- the status, the bytes and the answer that a call leaves
 abbrev pub calledOn : Lending → List ℕ → ℕ × List ℕ × List ℕ
 calledOn x s = arbiterCall (x .asked .caller) (x .asked .call) s (x .lent)
 

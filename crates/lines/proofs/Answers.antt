@@ -1,4 +1,4 @@
--- What a public function answers and leaves, by the tests it goes through; and what a caller reads off the answer `Bytes`.
+-- What a public function answers and leaves, by the tests it goes through; and what is read off the answer `Bytes`.
 use mathlib.Core.Path.{_≡_, refl, sym, ap}
 use mathlib.Core.List.{List, _++_}
 use mathlib.Core.Bool.{Bool, true, false, cond, _&&_}

@@ -13,7 +13,8 @@
 // The numbers are those of `image::judge`, `figures::figures`, `edits::edit`, `edits::preview`, `graph::finishes` and the calls of `callers`,
 // whose promises hold of them. Of the places that a program reads, `WholeFigures` and `WholePreview` repeat demand 3, `WholeEdit` what an edit
 // leaves, and `WholeFinishes` what finishes say of all starts, ends and whole runs. Calls to the arbiter one after the other lead where
-// `afterAllBy` of `callers` leads, so its laws and those of `arbiter` hold of the bytes (`bytes-lead` in crates/lent/proofs/Bytewise.antt).
+// `afterAllBy` of `callers` leads, so its laws and those of `arbiter` hold of the bytes (`bytes-lead`, `bytes-same-answers` in
+// crates/lent/proofs/Bytewise.antt).
 ghost use mathlib.Core.Path.{_≡_};
 ghost use Prim.Native.Nat.{_≤_};
 ghost use lib.ListN.{length};
