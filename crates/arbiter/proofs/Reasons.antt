@@ -6,16 +6,13 @@ use borrow.Author.Tests.{ltb-true, lt-leb, le-leb, lt-ltb, ne-eqb, eq-eqb, eqb-t
 use lib.Dec.{leb, ltb, eqb}
 use Prim.Native.Nat.{ℕ, zero, suc, _≤_, _<_}
 use Rattle.runs.proofs.Cases.{either, split}
-use Rattle.image.specs.declared.Refusal.{Refusal}
 use Rattle.image.specs.declared.Refusal.the-variants.{Register, Busy}
 use Rattle.arbiter.specs.declared.Arbiter.{Arbiter}
 use Rattle.arbiter.specs.declared.Outcome.{Outcome}
-use Rattle.arbiter.specs.declared.Reply.{Reply}
-use Rattle.arbiter.specs.declared.Reply.the-variants.{Accepted, Value, Refused}
 use Rattle.arbiter.specs.Device.{sized, formed, usable, registersOf, registerAt, lineOf, writable, busy}
 use Rattle.arbiter.specs.declared.Call.{Call}
 use Rattle.arbiter.specs.declared.Call.the-variants.{Read, Line, Write, Tick, Reset}
-use Rattle.arbiter.specs.Calls.{outcome, written, refuse, after, answer}
+use Rattle.arbiter.specs.Calls.{outcome, written, refuse, after, answer, done, refused, told}
 use Rattle.arbiter.specs.Conditions.{Misnamed, read-core, read-register, line-core, write-core, write-register, write-flags, no-length, length-above, mask-above, reset-size, AsksState, RefusedFor, misnamed, malformed, still-busy}
 use Rattle.arbiter.proofs.Tests.{and-left, and-right, and-both, cond-of}
 use Rattle.arbiter.proofs.Formed.{sized-true, true-sized, well-formed, formed-well, busy-true, true-busy, usable-formed, usable-core}
@@ -49,19 +46,16 @@ writable-named a p n v l w (mask-above h) = fails (lt-leb v 1 h) w
 -- ---- the three ways of a call
 
 pub data Judged (c : Call) (a : Arbiter) : Outcome → Type 0 where
-  register : RefusedFor a c Register → Judged c a (refuse Register a)
-  busy-still : RefusedFor a c Busy → Judged c a (refuse Busy a)
-  answered : {o : Outcome} → ((r : Refusal) → RefusedFor a c r → ⊥) → ((r : Refusal) (place : ℕ) → o .reply ≡ Refused r place → ⊥) → Judged c a o
+  register : RefusedFor a c 15 → Judged c a (refuse Register a)
+  busy-still : RefusedFor a c 16 → Judged c a (refuse Busy a)
+  answered : {o : Outcome} → ((n : ℕ) → RefusedFor a c n → ⊥) → ((n place : ℕ) → told (o .reply) ≡ refused n place → ⊥) → Judged c a o
 
 -- a value or a state is no refusal
-told : (v : ℕ) (r : Refusal) (place : ℕ) → _≡_ {A = Reply} (Value v) (Refused r place) → ⊥
-told v r place e = let z : _≡_ {A = ℕ} 0 1 = cc in omega arith
-
-left : (r : Refusal) (place : ℕ) → _≡_ {A = Reply} Accepted (Refused r place) → ⊥
-left r place e = let z : _≡_ {A = ℕ} 0 1 = cc in omega arith
+not-refused : (v n place : ℕ) → done v ≡ refused n place → ⊥
+not-refused v n place e = let z : _≡_ {A = ℕ} 0 1 = cc in omega arith
 
 -- a state that is not in range, and a core that the bus has not
-unusable : (c : Call) (a : Arbiter) (p : ℕ) → AsksState c → (a .cores ≤ p → Misnamed a c) → usable a p ≡ false → RefusedFor a c Register
+unusable : (c : Call) (a : Arbiter) (p : ℕ) → AsksState c → (a .cores ≤ p → Misnamed a c) → usable a p ≡ false → RefusedFor a c 15
 unfolding usable
 unusable c a p asks no-core e =
     either (formed a)
@@ -69,7 +63,7 @@ unusable c a p asks no-core e =
     (λ f. malformed asks (λ w. fails f (formed-well a w)))
 
 -- a state in range and a call that names what there is: 15 does not hold, and 16 of a length while busy alone
-holds-not : (c : Call) (a : Arbiter) → formed a ≡ true → (Misnamed a c → ⊥) → (RefusedFor a c Busy → ⊥) → (r : Refusal) → RefusedFor a c r → ⊥
+holds-not : (c : Call) (a : Arbiter) → formed a ≡ true → (Misnamed a c → ⊥) → (RefusedFor a c 16 → ⊥) → (n : ℕ) → RefusedFor a c n → ⊥
 holds-not c a f named b r (misnamed m) = named m
 holds-not c a f named b r (malformed asks n) = n (well-formed a f)
 holds-not c a f named b r (still-busy w m i) = b (still-busy w m i)
@@ -85,16 +79,16 @@ tick-named : (a : Arbiter) → Misnamed a Tick → ⊥
 tick-named a m = elim m [ ]
 
 -- a call is Busy only if it writes a length
-busy-read : (a : Arbiter) (p n : ℕ) → RefusedFor a (Read p n) Busy → ⊥
+busy-read : (a : Arbiter) (p n : ℕ) → RefusedFor a (Read p n) 16 → ⊥
 busy-read a p n x = elim x [ ]
 
-busy-line : (a : Arbiter) (p : ℕ) → RefusedFor a (Line p) Busy → ⊥
+busy-line : (a : Arbiter) (p : ℕ) → RefusedFor a (Line p) 16 → ⊥
 busy-line a p x = elim x [ ]
 
-busy-tick : (a : Arbiter) → RefusedFor a Tick Busy → ⊥
+busy-tick : (a : Arbiter) → RefusedFor a Tick 16 → ⊥
 busy-tick a x = elim x [ ]
 
-busy-write : (a : Arbiter) (p n v : ℕ) → RefusedFor a (Write p n v) Busy → (n ≡ 0) × (busy (registersOf a p) ≡ true)
+busy-write : (a : Arbiter) (p n v : ℕ) → RefusedFor a (Write p n v) 16 → (n ≡ 0) × (busy (registersOf a p) ≡ true)
 busy-write a p n v (still-busy w m i) = (refl, true-busy (registersOf a p) i)
 
 judged-read : (p n : ℕ) (a : Arbiter) → Judged (Read p n) a (outcome (Read p n) a)
@@ -104,7 +98,7 @@ judged-read p n a =
     (λ t. let u = and-left (usable a p) _ t in
     answered
     (holds-not (Read p n) a (usable-formed a p u) (read-named a p n (usable-core a p u) (ltb-true n 3 (and-right (usable a p) _ t))) (busy-read a p n))
-    (told (registerAt n (registersOf a p))))
+    (not-refused (registerAt n (registersOf a p))))
     (λ t. register (either (usable a p)
     (λ u. misnamed (read-register (split 3 n (λ h. h) (λ h. absurd (fails t (and-both u (lt-ltb n 3 h)))))))
     (λ u. unusable (Read p n) a p tt (λ h. read-core h) u)))
@@ -113,7 +107,7 @@ judged-line : (p : ℕ) (a : Arbiter) → Judged (Line p) a (outcome (Line p) a)
 unfolding outcome
 judged-line p a =
     cond-of (Judged (Line p) a) (usable a p)
-    (λ u. answered (holds-not (Line p) a (usable-formed a p u) (line-named a p (usable-core a p u)) (busy-line a p)) (told (lineOf (registersOf a p))))
+    (λ u. answered (holds-not (Line p) a (usable-formed a p u) (line-named a p (usable-core a p u)) (busy-line a p)) (not-refused (lineOf (registersOf a p))))
     (λ u. register (unusable (Line p) a p tt (λ h. line-core h) u))
 
 judged-written : (p n v : ℕ) (a : Arbiter) → formed a ≡ true → (Misnamed a (Write p n v) → ⊥) → Judged (Write p n v) a (written p n v a)
@@ -122,10 +116,10 @@ judged-written p n v a f named =
     either (eqb n 0)
     (λ z. let e : n ≡ 0 = eqb-true n 0 z in
     rw z (cond-of (Judged (Write p n v) a) (busy (registersOf a p))
-    (λ b. busy-still (subst (λ (m : ℕ). RefusedFor a (Write p m v) Busy) (sym e)
+    (λ b. busy-still (subst (λ (m : ℕ). RefusedFor a (Write p m v) 16) (sym e)
     (still-busy (well-formed a f) (subst (λ (m : ℕ). Misnamed a (Write p m v) → ⊥) e named) (busy-true (registersOf a p) b))))
-    (λ b. answered (holds-not (Write p n v) a f named (λ x. fails b (busy-write a p n v x .1))) left)))
-    (λ z. rw z (answered (holds-not (Write p n v) a f named (λ x. fails z (eq-eqb n 0 (busy-write a p n v x .0)))) left))
+    (λ b. answered (holds-not (Write p n v) a f named (λ x. fails b (busy-write a p n v x .1))) (not-refused 0))))
+    (λ z. rw z (answered (holds-not (Write p n v) a f named (λ x. fails z (eq-eqb n 0 (busy-write a p n v x .0)))) (not-refused 0)))
 
 judged-write : (p n v : ℕ) (a : Arbiter) → Judged (Write p n v) a (outcome (Write p n v) a)
 unfolding outcome
@@ -141,17 +135,17 @@ judged-tick : (a : Arbiter) → Judged Tick a (outcome Tick a)
 unfolding outcome
 judged-tick a =
     cond-of (Judged Tick a) (formed a)
-    (λ f. answered (holds-not Tick a f (tick-named a) (busy-tick a)) left)
+    (λ f. answered (holds-not Tick a f (tick-named a) (busy-tick a)) (not-refused 0))
     (λ f. register (malformed tt (λ w. fails f (formed-well a w))))
 
 judged-reset : (cores slot : ℕ) (a : Arbiter) → Judged (Reset cores slot) a (outcome (Reset cores slot) a)
 unfolding outcome
 judged-reset cores slot a =
     cond-of (Judged (Reset cores slot) a) (sized cores slot)
-    (λ z. answered (λ r x. free z r x) left)
+    (λ z. answered (λ r x. free z r x) (not-refused 0))
     (λ z. register (misnamed (reset-size (λ k. fails z (true-sized cores slot k)))))
   where
-    free : sized cores slot ≡ true → (r : Refusal) → RefusedFor a (Reset cores slot) r → ⊥
+    free : sized cores slot ≡ true → (n : ℕ) → RefusedFor a (Reset cores slot) n → ⊥
     free z r (misnamed (reset-size n)) = n (sized-true cores slot z)
     free z r (malformed asks n) = asks
 
@@ -164,33 +158,33 @@ judged (Reset cores slot) a = judged-reset cores slot a
 
 -- ---- if and only if
 
-because : (c : Call) (a : Arbiter) (o : Outcome) → Judged c a o → (r : Refusal) (place : ℕ) → o .reply ≡ Refused r place
-    → RefusedFor a c r × (place ≡ 0) × (o .state ≡ a)
-because c a o (register x) r place e =
-    let f : Register ≡ r = cc in
+because : (c : Call) (a : Arbiter) (o : Outcome) → Judged c a o → (n place : ℕ) → told (o .reply) ≡ refused n place
+    → RefusedFor a c n × (place ≡ 0) × (o .state ≡ a)
+because c a o (register x) n place e =
+    let f : _≡_ {A = ℕ} 15 n = cc in
     let g : _≡_ {A = ℕ} 0 place = cc in
-    (subst (λ (t : Refusal). RefusedFor a c t) f x, sym g, refl)
-because c a o (busy-still x) r place e =
-    let f : Busy ≡ r = cc in
+    (subst (RefusedFor a c) f x, sym g, refl)
+because c a o (busy-still x) n place e =
+    let f : _≡_ {A = ℕ} 16 n = cc in
     let g : _≡_ {A = ℕ} 0 place = cc in
-    (subst (λ (t : Refusal). RefusedFor a c t) f x, sym g, refl)
-because c a o (answered n t) r place e = absurd (t r place e)
+    (subst (RefusedFor a c) f x, sym g, refl)
+because c a o (answered free t) n place e = absurd (t n place e)
 
 -- 15 and 16 never both hold
-not-both : (c : Call) (a : Arbiter) → RefusedFor a c Register → RefusedFor a c Busy → ⊥
+not-both : (c : Call) (a : Arbiter) → RefusedFor a c 15 → RefusedFor a c 16 → ⊥
 not-both c a x (still-busy w m i) = elim x [ misnamed n ↦ m n | malformed asks n ↦ n w ]
 
-whenever : (c : Call) (a : Arbiter) (o : Outcome) → Judged c a o → (r : Refusal) → RefusedFor a c r → o .reply ≡ Refused r 0
-whenever c a o (register x) r (misnamed m) = refl
-whenever c a o (register x) r (malformed asks n) = refl
-whenever c a o (register x) r (still-busy w m i) = absurd (not-both c a x (still-busy w m i))
-whenever c a o (busy-still x) r (misnamed m) = absurd (not-both c a (misnamed m) x)
-whenever c a o (busy-still x) r (malformed asks n) = absurd (not-both c a (malformed asks n) x)
-whenever c a o (busy-still x) r (still-busy w m i) = refl
-whenever c a o (answered n t) r x = absurd (n r x)
+whenever : (c : Call) (a : Arbiter) (o : Outcome) → Judged c a o → (n : ℕ) → RefusedFor a c n → told (o .reply) ≡ refused n 0
+whenever c a o (register x) n (misnamed m) = refl
+whenever c a o (register x) n (malformed asks w) = refl
+whenever c a o (register x) n (still-busy w m i) = absurd (not-both c a x (still-busy w m i))
+whenever c a o (busy-still x) n (misnamed m) = absurd (not-both c a (misnamed m) x)
+whenever c a o (busy-still x) n (malformed asks w) = absurd (not-both c a (malformed asks w) x)
+whenever c a o (busy-still x) n (still-busy w m i) = refl
+whenever c a o (answered free t) n x = absurd (free n x)
 
-pub refused-because : (c : Call) (a : Arbiter) (r : Refusal) (place : ℕ) → answer c a ≡ Refused r place → RefusedFor a c r × (place ≡ 0) × (after c a ≡ a)
+pub refused-because : (c : Call) (a : Arbiter) (n place : ℕ) → told (answer c a) ≡ refused n place → RefusedFor a c n × (place ≡ 0) × (after c a ≡ a)
 refused-because c a = because c a (outcome c a) (judged c a)
 
-pub refused-whenever : (c : Call) (a : Arbiter) (r : Refusal) → RefusedFor a c r → answer c a ≡ Refused r 0
+pub refused-whenever : (c : Call) (a : Arbiter) (n : ℕ) → RefusedFor a c n → told (answer c a) ≡ refused n 0
 refused-whenever c a = whenever c a (outcome c a) (judged c a)

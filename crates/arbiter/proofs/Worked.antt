@@ -1,19 +1,16 @@
 -- Worked calls, by computing: document 01's starred waits on the device (cores 2, slot 5), and each refusal.
 use mathlib.Core.Path.{_≡_, refl}
-use mathlib.Core.Bool.{true, false}
-use mathlib.Core.List.{List, [], _∷_, _++_}
+use mathlib.Core.List.{[], _∷_, _++_}
 use lib.ListN.{replicate}
 use Prim.Native.Nat.{ℕ}
 use Rattle.runs.specs.Slots.{inSlot}
 use Rattle.image.specs.Fields.{busOk}
 use Rattle.image.specs.declared.Refusal.the-variants.{Register, Busy}
 use Rattle.arbiter.specs.declared.Arbiter.{Arbiter}
-use Rattle.arbiter.specs.declared.Call.{Call}
 use Rattle.arbiter.specs.declared.Call.the-variants.{Read, Line, Write, Tick, Reset}
-use Rattle.arbiter.specs.declared.Registers.{Registers}
 use Rattle.arbiter.specs.declared.Reply.{Reply}
 use Rattle.arbiter.specs.declared.Reply.the-variants.{Accepted, Value, Refused}
-use Rattle.arbiter.specs.Device.{busy, flagsFit, fits, allFit, formed, usable, clear, withRegisters, registerAt, lineOf, writable, cleared, startsNow, turned, countDown, fallen, steppedFrom, ticked}
+use Rattle.arbiter.specs.Device.{busy, flagsFit, fits, allFit, formed, usable, withRegisters, registerAt, lineOf, writable, cleared, startsNow, turned, countDown, fallen, steppedFrom, ticked}
 use Rattle.arbiter.specs.Calls.{written, outcome, answer, afterAll}
 
 -- the flags of a core whose length was written at an offset, so many ticks later

@@ -3,6 +3,7 @@ use mathlib.Core.Bool.{cond, _&&_}
 use mathlib.Core.List.{List, [], _∷_}
 use lib.Dec.{ltb, eqb}
 use Prim.Native.Nat.{ℕ}
+use Rattle.image.specs.Judged.{numberOf}
 use Rattle.image.specs.declared.Refusal.{Refusal}
 use Rattle.image.specs.declared.Refusal.the-variants.{Register, Busy}
 use Rattle.arbiter.specs.Device.{sized, formed, usable, registersOf, withRegisters, registerAt, lineOf, writable, busy, cleared, ticked}
@@ -47,6 +48,16 @@ after c a = outcome c a .state
 -- what it answers
 abbrev pub answer : Call → Arbiter → Reply
 answer c a = outcome c a .reply
+
+-- an answer in the papers' words: the value read, 0 where nothing is, or the number and the place of a refusal
+pub data Told : Type 0 where
+  done : ℕ → Told
+  refused : ℕ → ℕ → Told
+
+abbrev pub told : Reply → Told
+told Accepted = done 0
+told (Value v) = done v
+told (Refused r place) = refused (numberOf r) place
 
 -- the state after calls, the first of the list first
 unfoldable pub afterAll : List Call → Arbiter → Arbiter

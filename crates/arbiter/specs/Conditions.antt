@@ -4,8 +4,6 @@ use mathlib.Core.Path.{_≡_}
 use mathlib.Core.Logic.{_⊎_}
 use Prim.Native.Nat.{ℕ, _*_, _≤_, _<_}
 use Rattle.bus.specs.Waits.{Ranges}
-use Rattle.image.specs.declared.Refusal.{Refusal}
-use Rattle.image.specs.declared.Refusal.the-variants.{Register, Busy}
 use Rattle.arbiter.specs.Device.{registersOf}
 use Rattle.arbiter.specs.declared.Call.{Call}
 use Rattle.arbiter.specs.declared.Call.the-variants.{Read, Line, Write, Tick, Reset}
@@ -56,11 +54,11 @@ AsksState (Write p n v) = Unit {0}
 AsksState Tick = Unit {0}
 AsksState (Reset cores slot) = ⊥
 
--- for what a call is refused
-pub data RefusedFor (a : Arbiter) : Call → Refusal → Type 0 where
+-- for what a call is refused, by the number
+pub data RefusedFor (a : Arbiter) : Call → ℕ → Type 0 where
   -- 15, "judged first": of what the call names ..
-  misnamed : {c : Call} → Misnamed a c → RefusedFor a c Register
+  misnamed : {c : Call} → Misnamed a c → RefusedFor a c 15
   -- .. "or, save for a reset, a state with a number out of range"
-  malformed : {c : Call} → AsksState c → (WellFormed a → ⊥) → RefusedFor a c Register
+  malformed : {c : Call} → AsksState c → (WellFormed a → ⊥) → RefusedFor a c 15
   -- 16: "a length written while waiting or running"
-  still-busy : {p v : ℕ} → WellFormed a → (Misnamed a (Write p 0 v) → ⊥) → IsBusy (registersOf a p) → RefusedFor a (Write p 0 v) Busy
+  still-busy : {p v : ℕ} → WellFormed a → (Misnamed a (Write p 0 v) → ⊥) → IsBusy (registersOf a p) → RefusedFor a (Write p 0 v) 16

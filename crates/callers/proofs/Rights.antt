@@ -9,16 +9,13 @@ use lib.Dec.{ltb, eqb}
 use lib.ListN.{length}
 use Prim.Native.Nat.{ℕ, _<_}
 use Rattle.runs.proofs.Cases.{either}
-use Rattle.image.specs.declared.Refusal.{Refusal}
 use Rattle.image.specs.declared.Refusal.the-variants.{Forbidden}
 use Rattle.arbiter.specs.declared.Arbiter.{Arbiter}
 use Rattle.arbiter.specs.declared.Outcome.{Outcome}
-use Rattle.arbiter.specs.declared.Reply.{Reply}
-use Rattle.arbiter.specs.declared.Reply.the-variants.{Refused}
 use Rattle.arbiter.specs.declared.Call.{Call}
 use Rattle.arbiter.specs.declared.Call.the-variants.{Read, Line, Write, Tick, Reset}
 use Rattle.arbiter.specs.Device.{sized}
-use Rattle.arbiter.specs.Calls.{outcome, refuse, after, afterAll}
+use Rattle.arbiter.specs.Calls.{outcome, refuse, after, afterAll, refused, told}
 use Rattle.callers.specs.Callers.{isOwn, isWorkshop, hasRight, outcomeBy, afterBy, answerBy, Asked, afterAllBy, permitted}
 use Rattle.callers.specs.Conditions.{Right, own-register, own-line, own-write, every-register, every-line, workshop-ticks, workshop-resets, RefusedBy, forbidden, despite-right}
 use Rattle.callers.specs.Promise.{Answers}
@@ -39,15 +36,16 @@ is-own : (k : ℕ) → k < 16 → isOwn k k ≡ true
 unfolding isOwn
 is-own k l = and-both (lt-ltb k 16 l) (eq-eqb k k refl)
 
--- the workshop's right, or a core's own
+-- a right of the workshop
+the-workshop : (k : ℕ) (c : Call) → Right 16 c → isWorkshop k ≡ true → Right k c
+the-workshop k c w e = subst (λ (j : ℕ). Right j c) (sym (eqb-true k 16 e)) w
+
+-- or of a core, to its own
 reader : (k p : ℕ) (c : Call) → Right 16 c → (k < 16 → k ≡ p → Right k c) → isWorkshop k || isOwn k p ≡ true → Right k c
 reader k p c w o e =
     either (eqb k 16)
-    (λ t. subst (λ (j : ℕ). Right j c) (sym (eqb-true k 16 t)) w)
+    (λ t. the-workshop k c w t)
     (λ t. let i = own-is k p (ap (λ (u : Bool). u || isOwn k p) (sym t) ∙ e) in o (i .0) (i .1))
-
-the-workshop : (k : ℕ) (c : Call) → Right 16 c → isWorkshop k ≡ true → Right k c
-the-workshop k c w e = subst (λ (j : ℕ). Right j c) (sym (eqb-true k 16 e)) w
 
 pub right-if : (k : ℕ) (c : Call) → hasRight k c ≡ true → Right k c
 unfolding hasRight
@@ -85,25 +83,25 @@ module _ (k : ℕ) (c : Call) (a : Arbiter) where
   no-right : hasRight k c ≡ false → Right k c → ⊥
   no-right e w = false≢true (sym e ∙ if-right k c w)
 
-  because : (r : Refusal) (place : ℕ) → answerBy k c a ≡ Refused r place → RefusedBy k a c r × (place ≡ 0) × (afterBy k c a ≡ a)
-  because r place e =
+  because : (n place : ℕ) → told (answerBy k c a) ≡ refused n place → RefusedBy k a c n × (place ≡ 0) × (afterBy k c a ≡ a)
+  because n place e =
       either (hasRight k c)
       (λ t.
-      let b = refused-because c a r place (sym (ap (λ (o : Outcome). o .reply) (with-right t)) ∙ e) in
+      let b = refused-because c a n place (sym (ap (λ (o : Outcome). told (o .reply)) (with-right t)) ∙ e) in
       (despite-right (right-if k c t) (b .0), b .1, ap (λ (o : Outcome). o .state) (with-right t) ∙ b .2))
       (λ t.
-      let w : _≡_ {A = Reply} (Refused Forbidden 0) (Refused r place) = sym (ap (λ (o : Outcome). o .reply) (without-right t)) ∙ e in
-      let f : Forbidden ≡ r = cc in
+      let w : refused 17 0 ≡ refused n place = sym (ap (λ (o : Outcome). told (o .reply)) (without-right t)) ∙ e in
+      let f : _≡_ {A = ℕ} 17 n = cc in
       let g : _≡_ {A = ℕ} 0 place = cc in
-      (subst (λ (x : Refusal). RefusedBy k a c x) f (forbidden (no-right t)), sym g, ap (λ (o : Outcome). o .state) (without-right t)))
+      (subst (RefusedBy k a c) f (forbidden (no-right t)), sym g, ap (λ (o : Outcome). o .state) (without-right t)))
 
-  whenever : (r : Refusal) → RefusedBy k a c r → answerBy k c a ≡ Refused r 0
-  whenever r (forbidden n) = ap (λ (o : Outcome). o .reply) (without-right (either (hasRight k c) (λ t. absurd (n (right-if k c t))) (λ t. t)))
-  whenever r (despite-right w x) = ap (λ (o : Outcome). o .reply) (with-right (if-right k c w)) ∙ refused-whenever c a r x
+  whenever : (n : ℕ) → RefusedBy k a c n → told (answerBy k c a) ≡ refused n 0
+  whenever n (forbidden f) = ap (λ (o : Outcome). told (o .reply)) (without-right (either (hasRight k c) (λ t. absurd (f (right-if k c t))) (λ t. t)))
+  whenever n (despite-right w x) = ap (λ (o : Outcome). told (o .reply)) (with-right (if-right k c w)) ∙ refused-whenever c a n x
 
   -- one that is not refused is the call itself
-  pub not-refused : ((r : Refusal) → RefusedBy k a c r → ⊥) → outcomeBy k c a ≡ outcome c a
-  not-refused n = with-right (either (hasRight k c) (λ t. t) (λ t. absurd (n Forbidden (forbidden (no-right t)))))
+  pub not-refused : ((n : ℕ) → RefusedBy k a c n → ⊥) → outcomeBy k c a ≡ outcome c a
+  not-refused free = with-right (either (hasRight k c) (λ t. t) (λ t. absurd (free 17 (forbidden (no-right t)))))
 
   pub sixteen-by : length (a .registers) ≡ 16 → length (afterBy k c a .registers) ≡ 16
   sixteen-by e =

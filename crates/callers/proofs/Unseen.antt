@@ -64,16 +64,19 @@ module _ (k : ℕ) where
       (λ i. ap (λ (t : Bool). t && drives (x .call)) (sym (eq-eqb (x .caller) 16 i)) ∙ or-right (eqb (x .caller) k) _ e))
       (same-refl k a)
 
+  left-alone : {a a′ b b′ : Arbiter} → a′ ≡ a → b′ ≡ b → Same k a b → Same k a′ b′
+  left-alone p q s = same-trans (same-path p) (same-trans s (same-path (sym q)))
+
   -- the same call, of whatever caller, in two states that are the same for core k
   both-right : (j : ℕ) (c : Call) (a b : Arbiter) → Same k a b → Right j c → Same k (after c a) (after c b)
   both-right j c a b s (own-write l) =
       same j k
       (λ i. each k c a b (eq-eqb j k i) s)
       (λ n. same-trans (other k c a (ne-eqb j k n)) (same-trans s (same-sym (other k c b (ne-eqb j k n)))))
-  both-right j c a b s (own-register l) = same-trans (same-path (read-leaves j _ a)) (same-trans s (same-path (sym (read-leaves j _ b))))
-  both-right j c a b s (own-line l) = same-trans (same-path (line-leaves j a)) (same-trans s (same-path (sym (line-leaves j b))))
-  both-right j c a b s every-register = same-trans (same-path (read-leaves _ _ a)) (same-trans s (same-path (sym (read-leaves _ _ b))))
-  both-right j c a b s every-line = same-trans (same-path (line-leaves _ a)) (same-trans s (same-path (sym (line-leaves _ b))))
+  both-right j c a b s (own-register l) = left-alone (read-leaves j _ a) (read-leaves j _ b) s
+  both-right j c a b s (own-line l) = left-alone (line-leaves j a) (line-leaves j b) s
+  both-right j c a b s every-register = left-alone (read-leaves _ _ a) (read-leaves _ _ b) s
+  both-right j c a b s every-line = left-alone (line-leaves _ a) (line-leaves _ b) s
   both-right j c a b s workshop-ticks = each k c a b refl s
   both-right j c a b s workshop-resets = each k c a b refl s
 
@@ -109,7 +112,7 @@ module _ (k : ℕ) where
         reduced xs a b s ∙ ap (λ (zs : List Asked). answersTo k zs b) e ∙ sym (reduced ys b b (same-refl k b))
 
 -- W8: "From one reset on, with a core's own calls and the workshop's ticks and resets equal and in the same order, every answer to that core is equal."
--- Whatever the two states before the reset, and whatever other cores call and the workshop reads.
+-- Whatever the two states before that reset, and whatever else is called.
 pub same-answers : (k : ℕ) → k < 16 → (cores slot : ℕ) → sized cores slot ≡ true → (a b : Arbiter) (xs ys : List Asked) → concerningBy k xs ≡ concerningBy k ys
     → answersTo k xs (afterBy 16 (Reset cores slot) a) ≡ answersTo k ys (afterBy 16 (Reset cores slot) b)
 same-answers k core cores slot z a b xs ys e = equal-answers k core xs ys _ _ e (same-path (fresh-state a ∙ sym (fresh-state b)))

@@ -1,8 +1,6 @@
 -- When a caller's call is refused, in plain terms: the promise of each entry says that its answer is a refusal if and only if `RefusedBy` holds
 -- (document 02: "New numbers"). Definitions only.
 use Prim.Native.Nat.{ℕ, _<_}
-use Rattle.image.specs.declared.Refusal.{Refusal}
-use Rattle.image.specs.declared.Refusal.the-variants.{Forbidden}
 use Rattle.arbiter.specs.declared.Arbiter.{Arbiter}
 use Rattle.arbiter.specs.declared.Call.{Call}
 use Rattle.arbiter.specs.declared.Call.the-variants.{Read, Line, Write, Tick, Reset}
@@ -18,9 +16,9 @@ pub data Right : ℕ → Call → Type 0 where
   workshop-ticks : Right 16 Tick
   workshop-resets : {cores slot : ℕ} → Right 16 (Reset cores slot)
 
--- for what a call is refused to its caller
-pub data RefusedBy (k : ℕ) (a : Arbiter) : Call → Refusal → Type 0 where
+-- for what a call is refused to its caller, by the number
+pub data RefusedBy (k : ℕ) (a : Arbiter) : Call → ℕ → Type 0 where
   -- 17: "a caller above 16 or without that right", whatever the register, the value and the state
-  forbidden : {c : Call} → (Right k c → ⊥) → RefusedBy k a c Forbidden
+  forbidden : {c : Call} → (Right k c → ⊥) → RefusedBy k a c 17
   -- "judged before 15"
-  despite-right : {c : Call} {r : Refusal} → Right k c → RefusedFor a c r → RefusedBy k a c r
+  despite-right : {c : Call} {n : ℕ} → Right k c → RefusedFor a c n → RefusedBy k a c n

@@ -9,24 +9,19 @@ use mathlib.Core.List.{List, [], _∷_}
 use lib.ListN.{length, getD, drop}
 use lib.Dec.{leb, eqb}
 use Prim.Native.Nat.{ℕ, _≤_}
-use Rattle.image.specs.Judged.{numberOf}
-use Rattle.image.specs.declared.Refusal.{Refusal}
 use Rattle.arbiter.specs.declared.Call.{Call}
 use Rattle.arbiter.specs.declared.Call.the-variants.{Reset}
-use Rattle.arbiter.specs.Calls.{after, answer}
+use Rattle.arbiter.specs.Calls.{after, answer, Told, done, refused, told}
 use Rattle.callers.specs.Callers.{outcomeBy, Asked}
 use Rattle.callers.specs.Conditions.{RefusedBy}
 use Rattle.lent.specs.Bytes.{bytesOf, stateOf}
 use Rattle.arbiter.specs.declared.Outcome.{Outcome}
-use Rattle.arbiter.specs.declared.Reply.{Reply}
-use Rattle.arbiter.specs.declared.Reply.the-variants.{Accepted, Value, Refused}
-use Rattle.lent.specs.Answers.{doneInto, refusedInto, beside}
+use Rattle.lent.specs.Answers.{refusedInto, beside}
 
 -- 0 and the value read, or 0 where nothing is read; or the number and the place
-abbrev pub repliedInto : Reply → List ℕ → ℕ × List ℕ
-repliedInto Accepted lent = doneInto lent
-repliedInto (Value v) lent = (0, 0 ∷ v ∷ drop 2 lent)
-repliedInto (Refused r place) lent = refusedInto (numberOf r) place lent
+abbrev pub toldInto : Told → List ℕ → ℕ × List ℕ
+toldInto (done v) lent = (0, 0 ∷ v ∷ drop 2 lent)
+toldInto (refused n place) lent = refusedInto n place lent
 
 -- the answer has 2 places, and the state 51 bytes
 unfoldable pub room : List ℕ → List ℕ → Bool
@@ -34,17 +29,11 @@ room state lent = leb 2 (length lent) && eqb (length state) 51
 
 -- the status, the bytes of the state that a call leaves, and the answer at exit
 abbrev pub arbiterInto : Outcome → List ℕ → ℕ × List ℕ × List ℕ
-arbiterInto o lent = beside (bytesOf (o .state)) (repliedInto (o .reply) lent)
+arbiterInto o lent = beside (bytesOf (o .state)) (toldInto (told (o .reply)) lent)
 
 -- a caller's call on the state that the bytes say
 unfoldable pub arbiterCall : ℕ → Call → List ℕ → List ℕ → ℕ × List ℕ × List ℕ
 arbiterCall k c state lent = cond (room state lent) (arbiterInto (outcomeBy k c (stateOf state)) lent) (2, state, lent)
-
--- the value read, 0 where nothing is
-abbrev pub valueOf : Reply → ℕ
-valueOf Accepted = 0
-valueOf (Value v) = v
-valueOf (Refused r place) = 0
 
 -- 51 bytes and two places or more
 abbrev pub Lends : List ℕ → List ℕ → Type 0
@@ -53,12 +42,12 @@ Lends state lent = (length state ≡ 51) × (2 ≤ length lent)
 -- what the program finds: a call that is refused says for what, and leaves every byte; any other is done, the answer has the value read, and the
 -- bytes say the state that it leaves. Either status says so, and with less lent nothing is written
 pub record WholeCall (k : ℕ) (c : Call) (state lent : List ℕ) (status : ℕ) (exit found : List ℕ) : Type 0 where
-  pub refused : Lends state lent → (r : Refusal) → RefusedBy k (stateOf state) c r
-      → (status ≡ 1) × (getD found 0 0 ≡ numberOf r) × (getD found 1 0 ≡ 0) × (exit ≡ state)
-  pub done : Lends state lent → ((r : Refusal) → RefusedBy k (stateOf state) c r → ⊥)
-      → (status ≡ 0) × (getD found 0 0 ≡ 0) × (getD found 1 0 ≡ valueOf (answer c (stateOf state))) × (stateOf exit ≡ after c (stateOf state))
-  pub because : status ≡ 1 → Lends state lent × ((r : Refusal) × RefusedBy k (stateOf state) c r × (getD found 0 0 ≡ numberOf r))
-  pub possible : status ≡ 0 → Lends state lent × ((r : Refusal) → RefusedBy k (stateOf state) c r → ⊥)
+  pub when-refused : Lends state lent → (n : ℕ) → RefusedBy k (stateOf state) c n
+      → (status ≡ 1) × (getD found 0 0 ≡ n) × (getD found 1 0 ≡ 0) × (exit ≡ state)
+  pub when-done : Lends state lent → ((n : ℕ) → RefusedBy k (stateOf state) c n → ⊥)
+      → (status ≡ 0) × (getD found 0 0 ≡ 0) × (told (answer c (stateOf state)) ≡ done (getD found 1 0)) × (stateOf exit ≡ after c (stateOf state))
+  pub because : status ≡ 1 → Lends state lent × RefusedBy k (stateOf state) c (getD found 0 0)
+  pub possible : status ≡ 0 → Lends state lent × ((n : ℕ) → RefusedBy k (stateOf state) c n → ⊥)
   pub short : (Lends state lent → ⊥) → (status ≡ 2) × (exit ≡ state) × (found ≡ lent)
 
 -- ---- one call after the other
@@ -92,10 +81,10 @@ AllMade [] = Unit {0}
 AllMade (x ∷ xs) = (2 ≤ length (x .lent)) × AllMade xs
 
 -- the status and the first two places of the answer
-abbrev pub toldOf : ℕ × List ℕ × List ℕ → ℕ × ℕ × ℕ
-toldOf y = (y .0, getD (y .2) 0 0, getD (y .2) 1 0)
+abbrev pub foundIn : ℕ × List ℕ × List ℕ → ℕ × ℕ × ℕ
+foundIn y = (y .0, getD (y .2) 0 0, getD (y .2) 1 0)
 
 -- "every answer to that core", in order
-unfoldable pub toldTo : ℕ → List Lending → List ℕ → List (ℕ × ℕ × ℕ)
-toldTo k [] s = []
-toldTo k (x ∷ xs) s = cond (eqb (x .asked .caller) k) (toldOf (calledOn x s) ∷ toldTo k xs (calledOn x s .1)) (toldTo k xs (calledOn x s .1))
+unfoldable pub foundBy : ℕ → List Lending → List ℕ → List (ℕ × ℕ × ℕ)
+foundBy k [] s = []
+foundBy k (x ∷ xs) s = cond (eqb (x .asked .caller) k) (foundIn (calledOn x s) ∷ foundBy k xs (calledOn x s .1)) (foundBy k xs (calledOn x s .1))

@@ -13,8 +13,9 @@ ghost use mathlib.Core.List.{_∷_};
 ghost use Prim.Native.Nat.{_≤_};
 ghost use lib.ListN.{length, drop};
 ghost use Rattle.image.specs.Judged.{numberOf};
+ghost use Rattle.arbiter.specs.Calls.{told};
 ghost use Rattle.lent.specs.Answers.{doneInto, refusedInto};
-ghost use Rattle.lent.specs.OnBytes.{room, repliedInto, arbiterInto, arbiterCall, WholeCall};
+ghost use Rattle.lent.specs.OnBytes.{room, toldInto, arbiterInto, arbiterCall, WholeCall};
 use crate::bytes::BYTES;
 use crate::bytes::put_state;
 use crate::bytes::state_of;
@@ -75,7 +76,7 @@ fn has_room(state: &[u8], answer: &[u64]) -> bool
 // What a call to the arbiter answers: 0 and the value read, 0 where none is, or the number and the place.
 fn reply(answer: &mut [u64], r: Reply) -> u64
     requires { ⌜ 2 ≤ length (now answer) ⌝ }
-    ensures { λ n. ⌜ repliedInto r (now (answer .entry)) ≡ (n, now (answer .exit)) ⌝ }
+    ensures { λ n. ⌜ toldInto (told r) (now (answer .entry)) ≡ (n, now (answer .exit)) ⌝ }
 {
     match r {
         Reply::Accepted => done(answer),
