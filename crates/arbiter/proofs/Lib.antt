@@ -8,4 +8,4 @@ pub mod Kept
 pub mod Apart
 pub mod Reach
 pub mod Timing
-mod Worked
+pub mod Worked

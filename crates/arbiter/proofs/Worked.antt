@@ -18,10 +18,10 @@ abbrev at : ℕ → ℕ → ℕ → ℕ → Reply
 at core length offset ticks = answer (Read core 1) (afterAll (replicate offset Tick ++ (Write core 0 length ∷ replicate ticks Tick)) (cleared 2 5))
 
 -- an access of 2 cycles that waits on a bus of two cores with slots of 5, at offset 0; and the state in which core p has other registers
-abbrev waiting : Arbiter
+abbrev pub waiting : Arbiter
 waiting = afterAll (Write 0 0 2 ∷ []) (cleared 2 5)
 
-abbrev with-core : ℕ → ℕ → ℕ → ℕ → Arbiter
+abbrev pub with-core : ℕ → ℕ → ℕ → ℕ → Arbiter
 with-core p length flags mask = withRegisters (cleared 2 5) p (record { length = length; flags = flags; mask = mask })
 
 record Worked : Type 0 where

@@ -49,11 +49,12 @@ after c a = outcome c a .state
 abbrev pub answer : Call → Arbiter → Reply
 answer c a = outcome c a .reply
 
--- an answer in the papers' words: the value read, 0 where nothing is, or the number and the place of a refusal
+-- an answer in the papers' numbers: the value read, 0 where nothing is, or the number and the place of a refusal
 pub data Told : Type 0 where
   done : ℕ → Told
   refused : ℕ → ℕ → Told
 
+-- each case of an answer, so told
 abbrev pub told : Reply → Told
 told Accepted = done 0
 told (Value v) = done v

@@ -16,7 +16,7 @@ use Rattle.arbiter.specs.declared.Call.{Call}
 use Rattle.arbiter.specs.declared.Call.the-variants.{Read, Line, Write, Tick, Reset}
 use Rattle.arbiter.specs.Device.{sized}
 use Rattle.arbiter.specs.Calls.{outcome, refuse, after, afterAll, refused, told}
-use Rattle.callers.specs.Callers.{isOwn, isWorkshop, hasRight, outcomeBy, afterBy, answerBy, Asked, afterAllBy, permitted}
+use Rattle.callers.specs.Callers.{isOwn, isWorkshop, mayRead, hasRight, outcomeBy, afterBy, answerBy, Asked, afterAllBy, permitted}
 use Rattle.callers.specs.Conditions.{Right, own-register, own-line, own-write, every-register, every-line, workshop-ticks, workshop-resets, RefusedBy, forbidden, despite-right}
 use Rattle.callers.specs.Promise.{Answers}
 use Rattle.arbiter.specs.Sequences.{Reached, fresh}
@@ -41,7 +41,7 @@ the-workshop : (k : ℕ) (c : Call) → Right 16 c → isWorkshop k ≡ true →
 the-workshop k c w e = subst (λ (j : ℕ). Right j c) (sym (eqb-true k 16 e)) w
 
 -- or of a core, to its own
-reader : (k p : ℕ) (c : Call) → Right 16 c → (k < 16 → k ≡ p → Right k c) → isWorkshop k || isOwn k p ≡ true → Right k c
+reader : (k p : ℕ) (c : Call) → Right 16 c → (k < 16 → k ≡ p → Right k c) → mayRead k p ≡ true → Right k c
 reader k p c w o e =
     either (eqb k 16)
     (λ t. the-workshop k c w t)
@@ -55,7 +55,7 @@ right-if k (Write p n v) e = let o = own-is k p e in subst (λ (q : ℕ). Right 
 right-if k Tick e = the-workshop k Tick workshop-ticks e
 right-if k (Reset cores slot) e = the-workshop k (Reset cores slot) workshop-resets e
 
-own-reads : (k : ℕ) → k < 16 → isWorkshop k || isOwn k k ≡ true
+own-reads : (k : ℕ) → k < 16 → mayRead k k ≡ true
 own-reads k l = ap (λ (t : Bool). t || isOwn k k) (ne-eqb k 16 (λ e. omega arith)) ∙ is-own k l
 
 pub if-right : (k : ℕ) (c : Call) → Right k c → hasRight k c ≡ true

@@ -1,23 +1,14 @@
 -- Worked calls of each caller, by computing: what is permitted, and each refusal with 17.
 use mathlib.Core.Path.{_≡_, refl}
-use mathlib.Core.List.{[], _∷_}
-use Prim.Native.Nat.{ℕ}
 use Rattle.runs.specs.Slots.{inSlot}
 use Rattle.image.specs.Fields.{busOk}
 use Rattle.image.specs.declared.Refusal.the-variants.{Register, Forbidden}
-use Rattle.arbiter.specs.declared.Arbiter.{Arbiter}
 use Rattle.arbiter.specs.declared.Call.the-variants.{Read, Line, Write, Tick, Reset}
 use Rattle.arbiter.specs.declared.Reply.the-variants.{Accepted, Value, Refused}
-use Rattle.arbiter.specs.Device.{busy, flagsFit, fits, allFit, formed, usable, withRegisters, registerAt, lineOf, writable, cleared, startsNow, turned, countDown, fallen, steppedFrom, ticked}
+use Rattle.arbiter.specs.Device.{busy, flagsFit, fits, allFit, formed, usable, registerAt, lineOf, writable, cleared, startsNow, turned, countDown, fallen, steppedFrom, ticked}
 use Rattle.arbiter.specs.Calls.{written, outcome, afterAll}
+use Rattle.arbiter.proofs.Worked.{waiting, with-core}
 use Rattle.callers.specs.Callers.{isOwn, hasRight, outcomeBy, answerBy}
-
--- an access of 2 cycles that waits on a bus of two cores with slots of 5, at offset 0; and the state in which core p has other registers
-abbrev waiting : Arbiter
-waiting = afterAll (Write 0 0 2 ∷ []) (cleared 2 5)
-
-abbrev with-core : ℕ → ℕ → ℕ → ℕ → Arbiter
-with-core p length flags mask = withRegisters (cleared 2 5) p (record { length = length; flags = flags; mask = mask })
 
 record Worked : Type 0 where
   -- a core: its own registers and line, and nothing else

@@ -21,10 +21,14 @@ isOwn k p = ltb k 16 && eqb k p
 abbrev pub isWorkshop : ℕ → Bool
 isWorkshop k = eqb k 16
 
+-- who reads a core's registers and line: "The workshop reads everything", and a core "its own"
+abbrev pub mayRead : ℕ → ℕ → Bool
+mayRead k p = isWorkshop k || isOwn k p
+
 -- "A core reads and writes its own registers and reads its own line. The workshop reads everything, ticks and resets, and writes no register."
 unfoldable pub hasRight : ℕ → Call → Bool
-hasRight k (Read p n) = isWorkshop k || isOwn k p
-hasRight k (Line p) = isWorkshop k || isOwn k p
+hasRight k (Read p n) = mayRead k p
+hasRight k (Line p) = mayRead k p
 hasRight k (Write p n v) = isOwn k p
 hasRight k Tick = isWorkshop k
 hasRight k (Reset cores slot) = isWorkshop k

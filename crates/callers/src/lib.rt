@@ -11,9 +11,8 @@
 // (`permitted-lead`, `reached-by` in proofs/Rights.antt); and from one reset on, what a core is answered goes by its own calls and the workshop's
 // ticks and resets alone (`same-answers` in proofs/Unseen.antt).
 ghost use mathlib.Core.Path.{_≡_};
-ghost use mathlib.Core.Bool.{_||_};
 ghost use Rattle.arbiter.specs.declared.Call.the-variants.{Read, Line, Write, Tick, Reset};
-ghost use Rattle.callers.specs.Callers.{isOwn, isWorkshop, hasRight, outcomeBy};
+ghost use Rattle.callers.specs.Callers.{isOwn, mayRead, hasRight, outcomeBy};
 ghost use Rattle.callers.specs.Promise.{Answers};
 use arbiter::Arbiter;
 use arbiter::Call;
@@ -38,7 +37,7 @@ fn owns(caller: usize, core: usize) -> bool
 
 // May the caller read this core's registers and line?
 fn may_read(caller: usize, core: usize) -> bool
-    ensures { λ b. ⌜ b ≡ isWorkshop caller || isOwn caller core ⌝ }
+    ensures { λ b. ⌜ b ≡ mayRead caller core ⌝ }
 {
     if caller == WORKSHOP {
         return true;

@@ -38,15 +38,15 @@ enum-known-c-4 c = search needs
 
 returns : tie.Need-returns
 unfolding hasRight
-returns c = let a = c .before .before .before .before .args in of-call (a .caller) (a .c) _ _ (c .before .before .c .given .1) (c .may-read .ensures)
+returns c = let a = c .before .before .before .before .args in of-call (a .caller) (a .c) _ _ (c .before .before .c .given .1) (rw (c .may-read .ensures) refl)
 
 returns-2 : tie.Need-returns-2
 unfolding hasRight
-returns-2 c = let a = c .before .before .before .before .args in of-call (a .caller) (a .c) _ _ (c .before .before .c2 .given .1) (c .may-read2 .ensures)
+returns-2 c = let a = c .before .before .before .before .args in of-call (a .caller) (a .c) _ _ (c .before .before .c2 .given .1) (rw (c .may-read2 .ensures) refl)
 
 returns-3 : tie.Need-returns-3
 unfolding hasRight
-returns-3 c = let a = c .before .before .before .before .args in of-call (a .caller) (a .c) _ _ (c .before .before .c3 .given .1) (c .owns .ensures)
+returns-3 c = let a = c .before .before .before .before .args in of-call (a .caller) (a .c) _ _ (c .before .before .c3 .given .1) (rw (c .owns .ensures) refl)
 
 returns-4 : tie.Need-returns-4
 unfolding hasRight
