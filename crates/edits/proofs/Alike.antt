@@ -1,10 +1,10 @@
--- Two tasks whose nodes are the same, but for the durations of blocks, have trees of the same depth and visits.
+-- Two tasks whose nodes are the same, but for the durations of plain blocks, have trees of the same depth and visits, and as many lines.
 use mathlib.Core.Path.{_≡_, refl, ap, ap₂}
 use mathlib.Core.List.{List, [], _∷_}
 use native.Mathlib.Omega.{arith}
 use native.Mathlib.Nat.{not-suc-le-zero}
 use Prim.Native.Nat.{ℕ, zero, suc, _+_, _*_, _<_, max}
-use Rattle.runs.specs.Nodes.{Node, Tree, trees, treeBy, tree, All, Children, depth, deepest, visits, visitsAll}
+use Rattle.runs.specs.Nodes.{Node, Tree, trees, treeBy, tree, All, Children, depth, deepest, visits, visitsAll, lineOf, linesTo}
 use Rattle.runs.proofs.Trees.{tree-is, children-map}
 
 -- the same weight
@@ -32,6 +32,7 @@ module _ (f g : ℕ → Tree) where
   unfolding treeBy depth visits
   node-same (Node.plain lo hi) h = record { deep = refl; long = refl }
   node-same (Node.bus kind lo hi) h = record { deep = refl; long = refl }
+  node-same (Node.once x lo hi hit) h = record { deep = refl; long = refl }
   node-same (Node.sequence ns) h = record { deep = ap (λ (n : ℕ). 1 + n) (deepest-same ns h); long = ap (λ (n : ℕ). 1 + n) (visits-same ns h) }
   node-same (Node.branch ns) h = record { deep = ap (λ (n : ℕ). 1 + n) (deepest-same ns h); long = ap (λ (n : ℕ). 1 + n) (visits-same ns h) }
   node-same (Node.loop least greatest body) h = record { deep = ap (λ (n : ℕ). 1 + n) (h .deep); long = ap (λ (n : ℕ). 1 + greatest * n) (h .long) }
@@ -59,3 +60,13 @@ module _ (a b : ℕ → Node) (size : ℕ) (falls : (n : ℕ) → n < size → C
 
   pub equally : (n : ℕ) → n < size → Equally (tree a n) (tree b n)
   equally n l = equally-below (suc n) n (omega arith) l
+
+-- and they have as many lines
+line-same : (x y : Node) → Alike x y → lineOf x ≡ lineOf y
+line-same _ _ (same x) = refl
+line-same _ _ (plains lo hi lo' hi') = refl
+
+pub lines-same : (a b : ℕ → Node) (n : ℕ) → ((i : ℕ) → i < n → Alike (a i) (b i)) → linesTo a n ≡ linesTo b n
+unfolding linesTo
+lines-same a b zero h = refl
+lines-same a b (suc n) h = ap₂ max (lines-same a b n (λ i l. h i (omega arith))) (line-same (a n) (b n) (h n (omega arith)))

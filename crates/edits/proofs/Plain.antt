@@ -9,9 +9,10 @@ use Prim.Native.Nat.{ℕ, _+_}
 use Rattle.runs.specs.Nodes.{Node as RunNode}
 use Rattle.image.specs.Bytes.{byteAt, wordAt}
 use Rattle.image.specs.Nodes.{pickNode, nodeFrom, meant, nodeAt}
-use Rattle.image.specs.declared.nodes.Node.the-variants.{Plain, Bus, Sequence, Branch, Loop}
+use Rattle.image.specs.declared.nodes.Node.the-variants.{Plain, Bus, Once, Sequence, Branch, Loop}
 use Rattle.image.specs.declared.nodes.Plain.{Plain as PlainNumbers}
 use Rattle.image.specs.declared.nodes.BusBlock.{BusBlock}
+use Rattle.image.specs.declared.nodes.Once.{Once as OnceNumbers}
 use Rattle.image.specs.declared.nodes.Children.{Children}
 use Rattle.image.specs.declared.nodes.Loop.{Loop as LoopNumbers}
 use Rattle.image.specs.declared.Task.{Task}
@@ -20,22 +21,23 @@ use Rattle.edits.specs.Edits.{placeOf, isPlain}
 use Rattle.edits.specs.Promise.{PlainBlock}
 
 -- a node that is plain has tag 3
-plain-tag : (s : List ℕ) (t3 t4 t5 t6 : Bool) (p : PlainNumbers) (b : BusBlock) (c d : Children) (l : LoopNumbers) (lo hi : ℕ)
-    → meant s (pickNode t3 (Plain p) (pickNode t4 (Bus b) (pickNode t5 (Sequence c) (pickNode t6 (Branch d) (Loop l))))) ≡ RunNode.plain lo hi
+plain-tag : (s : List ℕ) (t3 t4 t5 t6 t10 : Bool) (p : PlainNumbers) (b : BusBlock) (c d : Children) (x : OnceNumbers) (l : LoopNumbers) (lo hi : ℕ)
+    → meant s (pickNode t3 (Plain p) (pickNode t4 (Bus b) (pickNode t5 (Sequence c) (pickNode t6 (Branch d) (pickNode t10 (Once x) (Loop l)))))) ≡ RunNode.plain lo hi
     → t3 ≡ true
 unfolding meant
-plain-tag s true t4 t5 t6 p b c d l lo hi e = refl
-plain-tag s false true t5 t6 p b c d l lo hi e = absurd (let z : _≡_ {A = ℕ} 0 1 = cc in omega arith)
-plain-tag s false false true t6 p b c d l lo hi e = absurd (let z : _≡_ {A = ℕ} 0 1 = cc in omega arith)
-plain-tag s false false false true p b c d l lo hi e = absurd (let z : _≡_ {A = ℕ} 0 1 = cc in omega arith)
-plain-tag s false false false false p b c d l lo hi e = absurd (let z : _≡_ {A = ℕ} 0 1 = cc in omega arith)
+plain-tag s true t4 t5 t6 t10 p b c d x l lo hi e = refl
+plain-tag s false true t5 t6 t10 p b c d x l lo hi e = absurd (let z : _≡_ {A = ℕ} 0 1 = cc in omega arith)
+plain-tag s false false true t6 t10 p b c d x l lo hi e = absurd (let z : _≡_ {A = ℕ} 0 1 = cc in omega arith)
+plain-tag s false false false true t10 p b c d x l lo hi e = absurd (let z : _≡_ {A = ℕ} 0 1 = cc in omega arith)
+plain-tag s false false false false true p b c d x l lo hi e = absurd (let z : _≡_ {A = ℕ} 0 1 = cc in omega arith)
+plain-tag s false false false false false p b c d x l lo hi e = absurd (let z : _≡_ {A = ℕ} 0 1 = cc in omega arith)
 
 module _ (s : List ℕ) (node : ℕ) where
   tag-plain : (lo hi : ℕ) → nodeAt s node ≡ RunNode.plain lo hi → byteAt s (placeOf s node) ≡ 3
   unfolding nodeAt nodeFrom
   tag-plain lo hi e =
       let t = byteAt s (placeOf s node) in
-      eqb-true t 3 (plain-tag s (eqb t 3) (eqb t 4) (eqb t 5) (eqb t 6) _ _ _ _ _ lo hi e)
+      eqb-true t 3 (plain-tag s (eqb t 3) (eqb t 4) (eqb t 5) (eqb t 6) (eqb t 10) _ _ _ _ _ _ lo hi e)
 
   -- what it says
   pub node-was : byteAt s (placeOf s node) ≡ 3 → nodeAt s node ≡ RunNode.plain (wordAt s (placeOf s node + 3)) (wordAt s (placeOf s node + 3 + 2))

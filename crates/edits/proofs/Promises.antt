@@ -12,7 +12,7 @@ use Rattle.image.specs.Bytes.{byteAt}
 use Rattle.image.specs.Judged.{numberOf}
 use Rattle.image.specs.Nodes.{taskOf}
 use Rattle.image.specs.declared.Refusal.{Refusal}
-use Rattle.image.specs.declared.Refusal.the-variants.{Cut, Tag, Full, Length, Value, Forward, Unfinished, Deep, Long, Table, Register, Busy, Forbidden, Block}
+use Rattle.image.specs.declared.Refusal.the-variants.{Cut, Tag, Full, Length, Value, Forward, Unfinished, Deep, Long, Table, Register, Busy, Forbidden, Lines, Block}
 use Rattle.figures.specs.declared.Totals.{Totals}
 use Rattle.figures.specs.declared.Answer.{Answer}
 use Rattle.figures.specs.declared.Answer.the-variants.{Given, Refused as NotGiven}
@@ -43,6 +43,7 @@ is-table Table e = refl
 is-table Register e = absurd (omega arith)
 is-table Busy e = absurd (omega arith)
 is-table Forbidden e = absurd (omega arith)
+is-table Lines e = absurd (omega arith)
 is-table Block e = absurd (omega arith)
 
 module _ (s : List ℕ) (node lo hi : ℕ) (f : Found) (h : Finding s node lo hi f) where

@@ -1,5 +1,6 @@
 -- What a field says depends on its own bytes, and on the bus: where two images agree on these, the row's rules and the node are the same.
 use mathlib.Core.Path.{_≡_, refl, _∙_, ap, ap₂}
+use mathlib.Core.Logic.{_⊎_, ⊎-elim}
 use mathlib.Core.Bool.{Bool, true, false, _&&_}
 use mathlib.Core.List.{List, _∷_}
 use lib.Dec.{eqb, leb, ltb}
@@ -86,6 +87,10 @@ module _ (s e : List ℕ) where
     unfolding lengthOk
     six-7 q = eqb-true n 6 (at-tag 7 q)
 
+    five-10 : eqb tag 10 ≡ true → n ≡ 5
+    unfolding lengthOk
+    five-10 q = eqb-true n 5 (at-tag 10 q)
+
     pub agree-value : byteAt e 3 ≡ byteAt s 3 → byteAt e 4 ≡ byteAt s 4 → valueOk e tag b n ≡ valueOk s tag b n
     unfolding valueOk
     agree-value cores slot =
@@ -99,7 +104,9 @@ module _ (s e : List ℕ) where
         (λ q. let l = three-4 q in rw (slot, h b (omega arith) (omega arith), h (b + 1) (omega arith) (omega arith), h (b + 2) (omega arith) (omega arith)))
         (λ n4. choose-same (eqb tag 7) _ _ _ _
         (λ q. let l = six-7 q in rw (agree-word b n b h (omega arith) (omega arith), agree-word b n (b + 2) h (omega arith) (omega arith)))
-        (λ n7. refl)))))
+        (λ n7. choose-same (eqb tag 10) _ _ _ _
+        (λ q. let l = five-10 q in rw (slot, h b (omega arith) (omega arith), h (b + 1) (omega arith) (omega arith), h (b + 2) (omega arith) (omega arith), agree-word b n (b + 3) h (omega arith) (omega arith)))
+        (λ n10. refl))))))
 
     pub agree-children : (index : ℕ) → childrenOk e tag b n index ≡ childrenOk s tag b n index
     unfolding childrenOk
@@ -111,7 +118,13 @@ module _ (s e : List ℕ) where
         (λ n7. refl))
 
     -- a node field
-    module _ (low : 3 ≤ tag) (high : tag ≤ 7) where
+    module _ (node : (tag ≡ 10) ⊎ ((3 ≤ tag) × (tag ≤ 7))) where
+      -- that is none of the others is a loop
+      seven : eqb tag 3 ≡ false → eqb tag 4 ≡ false → eqb tag 5 ≡ false → eqb tag 6 ≡ false → eqb tag 10 ≡ false → eqb tag 7 ≡ true
+      seven n3 n4 n5 n6 n10 =
+          ⊎-elim (λ q. absurd (eqb-false tag 10 n10 q))
+          (λ (lo, hi). eq-eqb tag 7 (omega (arith, eqb-false tag 3 n3, eqb-false tag 4 n4, eqb-false tag 5 n5, eqb-false tag 6 n6))) node
+
       agree-from : nodeFrom e tag b n ≡ nodeFrom s tag b n
       unfolding nodeFrom
       agree-from =
@@ -123,16 +136,19 @@ module _ (s e : List ℕ) where
           (λ q. refl)
           (λ n5. pick-same (eqb tag 6) _ _ _ _
           (λ q. refl)
-          (λ n6.
-          let l = six-7 (eq-eqb tag 7 (omega (arith, eqb-false tag 3 n3, eqb-false tag 4 n4, eqb-false tag 5 n5, eqb-false tag 6 n6))) in
-          rw (agree-word b n b h (omega arith) (omega arith), agree-word b n (b + 2) h (omega arith) (omega arith), agree-word b n (b + 4) h (omega arith) (omega arith))))))
+          (λ n6. pick-same (eqb tag 10) _ _ _ _
+          (λ q. let l = five-10 q in rw (h b (omega arith) (omega arith), h (b + 1) (omega arith) (omega arith), h (b + 2) (omega arith) (omega arith), agree-word b n (b + 3) h (omega arith) (omega arith)))
+          (λ n10.
+          let l = six-7 (seven n3 n4 n5 n6 n10) in
+          rw (agree-word b n b h (omega arith) (omega arith), agree-word b n (b + 2) h (omega arith) (omega arith), agree-word b n (b + 4) h (omega arith) (omega arith)))))))
 
       pub agree-node : meant e (nodeFrom e tag b n) ≡ meant s (nodeFrom s tag b n)
       unfolding nodeFrom meant
       agree-node = ap (meant e) agree-from ∙ pick-all (λ x. meant e x ≡ meant s x) (eqb tag 3) _ _ refl
           (pick-all (λ x. meant e x ≡ meant s x) (eqb tag 4) _ _ refl
           (pick-all (λ x. meant e x ≡ meant s x) (eqb tag 5) _ _ (ap RunNode.sequence named)
-          (pick-all (λ x. meant e x ≡ meant s x) (eqb tag 6) _ _ (ap RunNode.branch named) refl)))
+          (pick-all (λ x. meant e x ≡ meant s x) (eqb tag 6) _ _ (ap RunNode.branch named)
+          (pick-all (λ x. meant e x ≡ meant s x) (eqb tag 10) _ _ refl refl))))
         where
           named : words e b (n / 2) ≡ words s b (n / 2)
           named = agree-words b (n / 2) (agree-part b n b (2 * (n / 2)) h (omega arith) (omega arith))

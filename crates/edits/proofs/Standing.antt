@@ -24,7 +24,7 @@ use Rattle.edits.specs.Promise.{Editable}
 use Rattle.edits.proofs.Plain.{node-was, tag-of}
 use Rattle.edits.proofs.Written.{written-length, written-before, written-behind, written-lowest, written-highest}
 use Rattle.edits.proofs.Reading.{Agree, agree-part, agree-word, agree-bytes, agree-value, agree-children, agree-node}
-use Rattle.edits.proofs.Alike.{Alike, same, plains, Equally, equally}
+use Rattle.edits.proofs.Alike.{Alike, same, plains, Equally, equally, lines-same}
 
 -- fields stand one behind the other
 order : (s : List ℕ) (i j : ℕ) → i < j → fieldAt s i + 3 + lengthAt s i ≤ fieldAt s j
@@ -157,13 +157,12 @@ module _ (s : List ℕ) (node lo hi : ℕ) (d : Editable s node lo hi) where
   unfolding nodeAt
   node-other n l ne =
       let g = good (n + 2) (omega arith) in
-      let r = node-tag n (tagAt s (n + 2)) (g .tag) in
       rw (place-same (n + 2), tag-same (n + 2), length-same (n + 2))
       (agree-node s after (tagAt s (n + 2)) (bodyAt s (n + 2)) (lengthAt s (n + 2)) (g .len)
       (split node n
       (λ m. body-behind (n + 2) (let z : node < n = omega (arith, distinct m) in omega arith))
       (λ m. body-before (n + 2) (omega arith)))
-      (r .0) (r .1))
+      (node-tag n (tagAt s (n + 2)) (g .tag)))
     where
       distinct : node ≤ n → node < n
       distinct m = split n node (λ q. absurd (ne (omega arith))) (λ q. q)
@@ -172,7 +171,7 @@ module _ (s : List ℕ) (node lo hi : ℕ) (d : Editable s node lo hi) where
   unfolding nodeAt nodeFrom meant
   node-same = rw (place-same (node + 2), tag-same (node + 2), tag) (rw (lowest, highest))
 
-  -- so depth and visits stay
+  -- so depth, visits and lines stay
   alike : (n : ℕ) → n < suc (d .task .entry) → Alike (nodeAt s n) (nodeAt after n)
   alike n l =
       split node n
@@ -202,6 +201,9 @@ module _ (s : List ℕ) (node lo hi : ℕ) (d : Editable s node lo hi) where
         short = rw (← (w .long)) (a .short);
         bus = a .bus ∙ sym bus-same;
         starts = a .starts ∙ sym starts-word;
+        lines = a .lines ∙ lines-same (nodeAt s) (nodeAt after) (d .task .nodes) (λ i l. alike i (omega (arith, a .last)));
+        sets = a .sets;
+        narrow = rw (early 3 (omega arith), early 4 (omega arith)) (a .narrow);
       }
 
   pub still-accepted : judged after ≡ Accepted (d .task)

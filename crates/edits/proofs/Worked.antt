@@ -4,11 +4,13 @@ use mathlib.Core.List.{List, [], _∷_}
 use lib.ListN.{replicate}
 use Prim.Native.Nat.{ℕ}
 use Rattle.runs.specs.Slots.{equal, equation7}
-use Rattle.runs.specs.Nodes.{trees, treeBy, treeTo, tree, depth, visits}
+use Rattle.runs.specs.Lines.{power}
+use Rattle.runs.specs.Clock.{withLines}
+use Rattle.runs.specs.Nodes.{trees, treeBy, treeTo, tree, depth, visits, linesTo}
 use Rattle.runs.specs.Carried.{carried}
-use Rattle.runs.specs.Figures.{noTime, startTimes, startSet, longer, later, longestOf, cost, entryOf, held, sum}
+use Rattle.runs.specs.Figures.{noTime, startTimes, startSet, longer, later, longestOf, atOffsets, cost, entryOf, held, sum}
 use Rattle.image.specs.Bytes.{wordAt, words, bytes}
-use Rattle.image.specs.Fields.{tagOk, lengthOk, busOk, startsOk, plainOk, blockOk, loopOk, valueOk, below, childrenOk, fieldOf}
+use Rattle.image.specs.Fields.{tagOk, lengthOk, busOk, startsOk, plainOk, accessOk, blockOk, loopOk, valueOk, below, childrenOk, fieldOf}
 use Rattle.image.specs.Nodes.{fieldAt, nodeFrom, meant, nodeAt}
 use Rattle.image.specs.Judged.{scanFrom, scan, wholeOf, judged}
 use Rattle.figures.specs.Answers.{given, refused}
@@ -42,7 +44,7 @@ record Worked : Type 0 where
   kept : previewTable (arms 3 7) 1 8 7 (replicate 9 0) ≡ replicate 9 0
 
 worked : Worked
-unfolding wordAt words bytes tagOk lengthOk busOk startsOk plainOk blockOk loopOk valueOk below childrenOk fieldOf fieldAt nodeFrom meant nodeAt trees treeBy treeTo tree depth visits scanFrom scan wholeOf judged equal equation7 carried startTimes startSet longer later longestOf cost entryOf held sum withDurations found
+unfolding wordAt words bytes tagOk lengthOk busOk startsOk plainOk accessOk blockOk loopOk valueOk below childrenOk fieldOf fieldAt nodeFrom meant nodeAt trees treeBy treeTo tree depth visits power linesTo scanFrom scan wholeOf judged equal equation7 withLines carried startTimes startSet longer later longestOf atOffsets cost entryOf held sum withDurations found
 worked = record {
   is-done = refl;
   first-arm = refl;
@@ -66,5 +68,5 @@ worked = record {
 
 -- so there are possible edits
 possible : Editable (arms 3 7) 1 8 8
-unfolding wordAt words tagOk lengthOk busOk startsOk plainOk blockOk loopOk valueOk below childrenOk fieldOf fieldAt nodeFrom meant nodeAt trees treeBy treeTo tree depth visits scanFrom scan wholeOf judged found
+unfolding wordAt words tagOk lengthOk busOk startsOk plainOk accessOk blockOk loopOk valueOk below childrenOk fieldOf fieldAt nodeFrom meant nodeAt trees treeBy treeTo tree depth visits power linesTo scanFrom scan wholeOf judged found
 possible = when-found (arms 3 7) 1 8 8 17 refl

@@ -8,9 +8,9 @@ use native.Mathlib.Numerals.{add-one}
 use native.Mathlib.Nat.{add-zero, mul-le-mul-left}
 use native.Mathlib.Omega.{arith}
 use Prim.Native.Nat.{ℕ, zero, suc, _+_, _*_, _≤_, _<_}
-use Rattle.runs.specs.Clock.{State, on}
+use Rattle.runs.specs.Clock.{State}
 use Rattle.runs.specs.Nodes.{visits}
-use Rattle.runs.specs.Runs.{Task, placesOf, Run}
+use Rattle.runs.specs.Runs.{Task, placesOf, Run, finalOffset, Ends}
 use Rattle.runs.specs.Carried.{row}
 use Rattle.runs.specs.Figures.{Time, noTime, entryOf, held, sum, treeOf, exitTimes, exitCount, tight, published}
 use Rattle.runs.specs.Demand3.{Longest, nothing, reached, Accepted, Exact}
@@ -59,14 +59,17 @@ module _ (t : Task) (ok : Accepted t) (few : visits (treeOf t) ≤ 100000) (rest
   free-place o l e = place o l ∙ ap entryOf e
 
   -- where a run ends a time stands that it does not exceed
-  at-run : (s : State) → Run t s → (m : ℕ) × (getD (exitTimes t) (s .at) none ≡ some m) × (s .count ≤ m)
-  at-run s r = longest-has (exact .table (s .at) (exact .inside s r)) (s .count) r
+  at-end : (o c : ℕ) → o < t .bus .period → Ends t o c → (m : ℕ) × (getD (exitTimes t) o none ≡ some m) × (c ≤ m)
+  at-end o c l e = longest-has (exact .table o l) c e
+
+  at-run : (s : State) → Run t s → (m : ℕ) × (getD (exitTimes t) (finalOffset t s) none ≡ some m) × (s .count ≤ m)
+  at-run s r = at-end (finalOffset t s) (s .count) (exact .inside s r) (s .at, refl, r)
 
   -- what is listed is a time, which a run reaches
-  at-listed : (o : ℕ) → o < t .bus .period → Listed table o → (m : ℕ) × (getD (exitTimes t) o none ≡ some m) × (getD table o 0 ≡ m) × Run t (on o m)
+  at-listed : (o : ℕ) → o < t .bus .period → Listed table o → (m : ℕ) × (getD (exitTimes t) o none ≡ some m) × (getD table o 0 ≡ m) × Ends t o m
   at-listed o l h = go (getD (exitTimes t) o none) refl
     where
-      go : (v : Time) → getD (exitTimes t) o none ≡ v → (m : ℕ) × (getD (exitTimes t) o none ≡ some m) × (getD table o 0 ≡ m) × Run t (on o m)
+      go : (v : Time) → getD (exitTimes t) o none ≡ v → (m : ℕ) × (getD (exitTimes t) o none ≡ some m) × (getD table o 0 ≡ m) × Ends t o m
       go none e = absurd (h (free-place o l e))
       go (some m) e = (m, e, held-place o m l e .0, longest-some (exact .table o l) m e .0)
 
@@ -78,7 +81,7 @@ module _ (t : Task) (ok : Accepted t) (few : visits (treeOf t) ≤ 100000) (rest
     where
       go : Counted (EndsAt t) n (sum n (λ o. cond (held (getD (exitTimes t) o none)) 1 0)) → (v : Time) → getD (exitTimes t) n none ≡ v
           → Counted (EndsAt t) (suc n) (sum n (λ o. cond (held (getD (exitTimes t) o none)) 1 0) + cond (held (getD (exitTimes t) n none)) 1 0)
-      go before none e = rw (e, add-zero) (no-more before (λ (c, r). let (m, f, b) = at-run (on n c) r in let z : _≡_ {A = ℕ} 0 1 = cc (e, f) in omega arith))
+      go before none e = rw (e, add-zero) (no-more before (λ (c, r). let (m, f, b) = at-end n c (omega arith) r in let z : _≡_ {A = ℕ} 0 1 = cc (e, f) in omega arith))
       go before (some m) e = rw (e, add-one) (one-more before (m, longest-some (exact .table n (omega arith)) m e .0))
 
   pub whole-runs : WholeRuns t (entryOf (tight t)) (published t) (exitCount t) table
@@ -86,26 +89,29 @@ module _ (t : Task) (ok : Accepted t) (few : visits (treeOf t) ≤ 100000) (rest
   whole-runs = let (m, e) = tight-number t ok in rw e (runs m e)
     where
       tightest : (m : ℕ) → tight t ≡ some m → (s : State) → Run t s → s .count ≤ m
-      tightest m e s r = longest-some (exact .longest) m e .1 (s .count) (s .at, exact .inside s r, r)
+      tightest m e s r = longest-some (exact .longest) m e .1 (s .count) (finalOffset t s, exact .inside s r, (s .at, refl, r))
+
+      no-later : (m : ℕ) → tight t ≡ some m → (o n : ℕ) → o < t .bus .period → Ends t o n → n ≤ m
+      no-later m e o n l r = longest-some (exact .longest) m e .1 n (o, l, r)
 
       highest : (m : ℕ) → tight t ≡ some m → (o : ℕ) × (o < t .bus .period) × Listed table o × (getD table o 0 ≡ m)
       highest m e =
           let (o, l, r) = longest-some (exact .longest) m e .0 in
-          let (n, f, b) = at-run (on o m) r in
+          let (n, f, b) = at-end o m l r in
           let h = held-place o n l f in
-          let top = tightest m e (on o n) (longest-some (exact .table o l) n f .0) in
+          let top = no-later m e o n l (longest-some (exact .table o l) n f .0) in
           (o, l, (λ z. omega (arith, h .0, h .1, z)), omega (arith, h .0))
 
       runs : (m : ℕ) → tight t ≡ some m → WholeRuns t m (published t) (exitCount t) table
       runs m e = record {
         some-run = exact .some-run;
         inside = exact .inside;
-        listed = λ s r. let (n, f, b) = at-run s r in let h = held-place (s .at) n (exact .inside s r) f in (λ z. omega (arith, h .0, h .1, z));
-        within-time = λ s r. let (n, f, b) = at-run s r in omega (arith, held-place (s .at) n (exact .inside s r) f .0);
+        listed = λ s r. let (n, f, b) = at-run s r in let h = held-place (finalOffset t s) n (exact .inside s r) f in (λ z. omega (arith, h .0, h .1, z));
+        within-time = λ s r. let (n, f, b) = at-run s r in omega (arith, held-place (finalOffset t s) n (exact .inside s r) f .0);
         within-tight = tightest m e;
         reached = λ o l h. let (n, f, p, r) = at-listed o l h in rw p r;
         counted = count-below (t .bus .period) (omega arith);
         largest = highest m e;
-        no-larger = λ o l h. let (n, f, p, r) = at-listed o l h in omega (arith, p, tightest m e (on o n) r);
+        no-larger = λ o l h. let (n, f, p, r) = at-listed o l h in omega (arith, p, no-later m e o n l r);
         below-published = exact .tight-below m e;
       }

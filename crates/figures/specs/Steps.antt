@@ -6,7 +6,8 @@ use lib.ListN.{getD}
 use lib.Dec.{eqb}
 use Prim.Native.Nat.{ℕ, _+_, _≤_, _<_}
 use Rattle.runs.specs.Slots.{equal}
-use Rattle.runs.specs.Clock.{offsets}
+use Rattle.runs.specs.Clock.{withLines}
+use Rattle.runs.specs.Runs.{listed}
 use Rattle.runs.specs.Figures.{noTime, startTimes, startSet, exitTimes, sum}
 use Rattle.bus.specs.declared.Bus.{Bus}
 use Rattle.bus.specs.Waits.{slotsOf, Ranges}
@@ -18,6 +19,7 @@ use Rattle.image.specs.Walks.{Walkable}
 use Rattle.image.specs.declared.Task.{Task}
 use Rattle.times.specs.Arrays.{tableOf}
 use Rattle.image.specs.declared.Verdict.the-variants.{Accepted}
+use Rattle.tight.specs.Steps.{table}
 use Rattle.exits.specs.Exits.{bitsOf, busPeriod, Within}
 use Rattle.figures.specs.declared.Answer.{Answer}
 use Rattle.figures.specs.Answers.{resultOf, afterJudging, tableFor}
@@ -34,9 +36,12 @@ pub record Answerable (s : List ℕ) (k : Task) (places : List ℕ) : Type 0 whe
   pub walkable : Walkable s k places
   pub listing : Listing s (k .bus) (k .starts)
 
--- the array that holds the time 0 at each listed start
+-- the array that holds the time 0 at each listed start; and the table that the walk starts from
 abbrev pub Started : List ℕ → Bus → List ℕ → Type 0
-Started s b r = tableOf (busPeriod b) r ≡ startTimes (equal (slotsOf b)) (offsets (busPeriod b)) (startsOf s)
+Started s b r = (o : ℕ) → o < busPeriod b → getD r o 0 ≡ cond (listed (startsOf s) o) 0 noTime
+
+abbrev pub StartedAt : List ℕ → Task → List ℕ → Type 0
+StartedAt s k t = table k t ≡ startTimes (equal (slotsOf (k .bus))) (withLines (busPeriod (k .bus)) (k .lines)) (startsOf s)
 
 -- the set of the listed starts
 pub record StartedSet (s : List ℕ) (b : Bus) (r : Set) : Type 0 where

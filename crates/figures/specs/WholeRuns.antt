@@ -4,8 +4,8 @@ use mathlib.Core.Path.{_≡_}
 use mathlib.Core.List.{List}
 use lib.ListN.{getD}
 use Prim.Native.Nat.{ℕ, zero, suc, _≤_, _<_}
-use Rattle.runs.specs.Clock.{State, on}
-use Rattle.runs.specs.Runs.{Task, Run}
+use Rattle.runs.specs.Clock.{State}
+use Rattle.runs.specs.Runs.{Task, Run, finalOffset, Ends}
 use Rattle.runs.specs.Figures.{noTime}
 
 -- "An offset o below P is listed when place o holds a time and not that number."
@@ -20,18 +20,18 @@ pub data Counted (Q : ℕ → Type 0) : ℕ → ℕ → Type 0 where
 
 -- some run ends at the offset o
 abbrev pub EndsAt : Task → ℕ → Type 0
-EndsAt t o = (c : ℕ) × Run t (on o c)
+EndsAt t o = (c : ℕ) × Ends t o c
 
 pub record WholeRuns (t : Task) (tight published exits : ℕ) (table : List ℕ) : Type 0 where
   -- there is a run
   pub some-run : (s : State) × Run t s
   -- "its final offset is listed and its cycles exceed neither the time listed there nor the tight figure"
-  pub inside : (s : State) → Run t s → s .at < t .bus .period
-  pub listed : (s : State) → Run t s → Listed table (s .at)
-  pub within-time : (s : State) → Run t s → s .count ≤ getD table (s .at) 0
+  pub inside : (s : State) → Run t s → finalOffset t s < t .bus .period
+  pub listed : (s : State) → Run t s → Listed table (finalOffset t s)
+  pub within-time : (s : State) → Run t s → s .count ≤ getD table (finalOffset t s) 0
   pub within-tight : (s : State) → Run t s → s .count ≤ tight
   -- "Each listed time is reached by a run that ends at its offset."
-  pub reached : (o : ℕ) → o < t .bus .period → Listed table o → Run t (on o (getD table o 0))
+  pub reached : (o : ℕ) → o < t .bus .period → Listed table o → Ends t o (getD table o 0)
   -- "The exit count is the number of offsets at which runs end."
   pub counted : Counted (EndsAt t) (t .bus .period) exits
   -- "Tight = the largest listed time ≤ published."

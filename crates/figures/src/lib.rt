@@ -69,8 +69,22 @@ fn exit_times(image: &[u8], places: &[usize; 256], k: Task) -> [u64; 256]
     ensures { λ r. ⌜ Ended (now (image .entry)) k r ⌝ }
 {
     let mut t = start_times(image, k.bus, k.starts);
+    if 1 < k.sets {
+        return over_lines(image, places, k, &t);
+    }
     tight::walk(image, places, k, k.entry, &mut t);
     t
+}
+
+// The same where the image has lines: the starts have no line fetched, and at the end each offset has its longest time, whichever lines are.
+fn over_lines(image: &[u8], places: &[usize; 256], k: Task, start: &[u64; 256]) -> [u64; 256]
+    requires { ⌜ (Answerable (now image) k (now places)) × Started (now image) (k .bus) (now start) ⌝ }
+    ensures { λ r. ⌜ Ended (now (image .entry)) k r ⌝ }
+{
+    let mut t = [18446744073709551615u64; 1024];
+    times::put(&mut t, 0, start, bus::period(k.bus));
+    tight::walk(image, places, k, k.entry, &mut t);
+    lined::at_offsets(k.bus, k.sets, &t)
 }
 
 // The published figure.

@@ -2,16 +2,16 @@
 use mathlib.Core.Path.{_≡_, refl, sym, _∙_, ap, subst}
 use mathlib.Core.Bool.{true}
 use mathlib.Core.List.{List}
-use native.Mathlib.Nat.{mod-lt, add-zero}
+use native.Mathlib.Nat.{mod-lt, mod-mod, add-zero}
 use native.Mathlib.Omega.{arith}
 use Prim.Native.Nat.{ℕ, zero, suc, _+_, _-_, _%_, _≤_, _<_}
 use Rattle.runs.specs.Slots.{equal}
-use Rattle.runs.specs.Clock.{on}
-use Rattle.runs.specs.Runs.{Task, placesOf, listed, Run}
+use Rattle.runs.specs.Clock.{on, withLines, Turning}
+use Rattle.runs.specs.Runs.{Task, placesOf, finalOffset, listed, Run}
 use Rattle.runs.specs.Figures.{treeOf}
 use Rattle.runs.specs.Demand3.{Accepted as RunAccepted}
 use Rattle.runs.proofs.Cases.{split}
-use Rattle.runs.proofs.OffsetsLaws.{offsets-turn}
+use Rattle.runs.proofs.LinesLaws.{lines-turn}
 use Rattle.runs.proofs.ByNumber.{exec-does}
 use Rattle.runs.proofs.SomeRun.{some-execution}
 use Rattle.runs.proofs.Whole.{whole-valid}
@@ -45,16 +45,18 @@ any-cycle t tight published exits table w every c d r =
     omega (arith, w .within-tight (r .final) this, r .cycles)
 
 -- a run begun at the cycle c that takes d cycles leaves the offset of the cycle c + d
-pub ends-right : (t : Task) (c d : ℕ) (r : Takes t c d) → r .final .at ≡ (c + d) % t .bus .period
-ends-right t c d r =
-    does-on t c (r .does) (ap (λ (n : ℕ). n % t .bus .period) (sym (add-zero c)))
+pub ends-right : (t : Task) → 0 < t .bus .period → (c d : ℕ) (r : Takes t c d) → finalOffset t (r .final) ≡ (c + d) % t .bus .period
+unfolding withLines
+ends-right t pos c d r =
+    does-on t pos c (r .does) (mod-mod c (t .bus .period) ∙ ap (λ (n : ℕ). n % t .bus .period) (sym (add-zero c)))
     ∙ ap (λ (n : ℕ). (c + n) % t .bus .period) (r .cycles)
 
 -- from any cycle there is a run
 some-takes : (t : Task) → RunAccepted t → (c : ℕ) → (d : ℕ) × Takes t c d
 some-takes t ok c =
     let pos = ok .lawful .period-pos in
-    let (s, r) = some-execution (t .bus) (ok .lawful) (ok .small) (placesOf t) (offsets-turn (t .bus .period) pos) (treeOf t) (whole-valid t ok) (on (c % t .bus .period) 0) (mod-lt c pos) in (
+    let turn = lines-turn (t .bus .period) pos (t .lines) in
+    let (s, r) = some-execution (t .bus) (ok .lawful) (ok .small) (placesOf t) turn (treeOf t) (whole-valid t ok) (on (c % t .bus .period) 0) (omega (arith, mod-lt c pos, turn .offsets-in)) in (
       s .count,
       record {
         final = s;
@@ -90,7 +92,7 @@ module _ (s : List ℕ) (P : ℕ) (h : Starts s P P) where
   start-is : (i : ℕ) → i < P → byteAt s (9 + i) ≡ i
   start-is i l = omega (arith, no-lower i l, no-higher (P - i - 1) i (omega arith))
 
--- how it is seen in the bytes in the bytes: an accepted image with as many starts as its period has offsets lists every offset
+-- how it is seen in the bytes: an accepted image with as many starts as its period has offsets lists every offset
 pub lists-every : (s : List ℕ) (k : Kept) → judged s ≡ Accepted k → wordAt s 7 ≡ periodOf k → EveryOffset (taskOf s k)
 unfolding equal
 lists-every s k e full o l =

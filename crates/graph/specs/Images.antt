@@ -17,7 +17,7 @@ abbrev pub EveryOffset : Task → Type 0
 EveryOffset t = (o : ℕ) → o < t .bus .period → listed (t .starts) o ≡ true
 
 -- The task, begun at the cycle c of the bus clock, takes d cycles: its entry is executed from the offset of that cycle ("An offset is a cycle
--- number modulo P"), listed as a start or not, and `final` is the state that it leaves.
+-- number modulo P"), listed as a start or not, with no line fetched, and `final` is the state that it leaves.
 pub record Takes (t : Task) (c d : ℕ) : Type 0 where
   pub final : State
   pub does : Does (t .bus) (placesOf t) (t .nodeAt) (t .entry) (on (c % t .bus .period) 0) final

@@ -15,7 +15,7 @@ use Rattle.image.specs.Conditions.{Passed}
 use Rattle.image.specs.Promise.{Fine, Standing}
 use Rattle.image.specs.Inner.{Holds}
 use Rattle.image.specs.declared.nodes.Node.{Node}
-use Rattle.image.specs.declared.nodes.Node.the-variants.{Plain, Bus as Block, Sequence, Branch, Loop}
+use Rattle.image.specs.declared.nodes.Node.the-variants.{Plain, Bus as Block, Once, Sequence, Branch, Loop}
 use Rattle.image.proofs.Lists.{words-step, words-none, all-words}
 use Rattle.image.proofs.Kept.{node-fine}
 
@@ -23,6 +23,7 @@ names : (s : List ℕ) (own : ℕ) (x : Node) → Fine s own x → Named (λ i. 
 unfolding meant Fine
 names s own (Plain p) f = tt
 names s own (Block b) f = tt
+names s own (Once x) f = tt
 names s own (Sequence c) f = all-words (λ i. i < own) s (c .place) (c .count) (f .3)
 names s own (Branch c) f = all-words (λ i. i < own) s (c .place) (c .count) (f .3)
 names s own (Loop l) f = f .2

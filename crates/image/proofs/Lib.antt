@@ -6,6 +6,7 @@ pub mod Reasons
 pub mod Kept
 pub mod Scans
 pub mod Levels
+pub mod Fetches
 pub mod Longest
 pub mod Sounds
 pub mod Promises

@@ -1,5 +1,6 @@
--- "a valid image has at most 9,197, since node 0 must be a block" (document 01).
+-- "a valid image has at most" so many bytes, "since node 0 must be a block" (document 01; with W9 that block may have tag 10, and one byte more).
 use mathlib.Core.Path.{_≡_, _∙_}
+use mathlib.Core.Logic.{_⊎_}
 use mathlib.Core.Bool.{true}
 use mathlib.Core.List.{List}
 use lib.ListN.{length}
@@ -19,40 +20,40 @@ use Rattle.image.proofs.Passing.{next-at, few, fewer}
 use Rattle.image.proofs.Kept.{by-tag, bus-row, starts-row, node-tag}
 
 -- the longest body of a node field
-body-most : (t n : ℕ) → 3 ≤ t → t ≤ 7 → lengthOk t n ≡ true → n ≤ 32
+body-most : (t n : ℕ) → (t ≡ 10) ⊎ ((3 ≤ t) × (t ≤ 7)) → lengthOk t n ≡ true → n ≤ 32
 unfolding lengthOk
-body-most t n lo hi =
-    by-tag (λ t. lengthOk t n ≡ true → n ≤ 32) t lo hi
+body-most t n r =
+    by-tag (λ t. lengthOk t n ≡ true → n ≤ 32) t r
     (λ e. omega (arith, eqb-true n 4 e))
     (λ e. omega (arith, eqb-true n 3 e))
     (λ e. is-within 2 32 n (both (within 2 32 n) (eqb (n % 2) 0) e .0) .1)
     (λ e. omega (arith, is-within 4 16 n (both (within 4 16 n) (eqb (n % 2) 0) e .0) .1))
     (λ e. omega (arith, eqb-true n 6 e))
+    (λ e. omega (arith, eqb-true n 5 e))
 
 -- node 0 names no child
-first-most : (s : List ℕ) (b t n : ℕ) → 3 ≤ t → t ≤ 7 → lengthOk t n ≡ true → childrenOk s t b n 2 ≡ true → n ≤ 4
+first-most : (s : List ℕ) (b t n : ℕ) → (t ≡ 10) ⊎ ((3 ≤ t) × (t ≤ 7)) → lengthOk t n ≡ true → childrenOk s t b n 2 ≡ true → n ≤ 5
 unfolding lengthOk childrenOk
-first-most s b t n lo hi =
-    by-tag (λ t. lengthOk t n ≡ true → childrenOk s t b n 2 ≡ true → n ≤ 4) t lo hi
+first-most s b t n r =
+    by-tag (λ t. lengthOk t n ≡ true → childrenOk s t b n 2 ≡ true → n ≤ 5) t r
     (λ e c. omega (arith, eqb-true n 4 e))
     (λ e c. omega (arith, eqb-true n 3 e))
     (λ e c. let l = is-within 2 32 n (both (within 2 32 n) (eqb (n % 2) 0) e .0) .0 in absurd (not-suc-le-zero (names-below s b (n / 2) 0 c 0 (omega arith))))
     (λ e c. let l = is-within 4 16 n (both (within 4 16 n) (eqb (n % 2) 0) e .0) .0 in absurd (not-suc-le-zero (names-below s b (n / 2) 0 c 0 (omega arith))))
     (λ e c. absurd (not-suc-le-zero (names-below s (b + 4) 1 0 c 0 (omega arith))))
+    (λ e c. omega (arith, eqb-true n 5 e))
 
 module _ (s : List ℕ) where
   node-most : (k : ℕ) → GoodField s (k + 2) → lengthAt s (k + 2) ≤ 32
   node-most k g =
-      let r = node-tag k (tagAt s (k + 2)) (g .tag) in
-      body-most (tagAt s (k + 2)) (lengthAt s (k + 2)) (r .0) (r .1) (g .len)
+      body-most (tagAt s (k + 2)) (lengthAt s (k + 2)) (node-tag k (tagAt s (k + 2)) (g .tag)) (g .len)
 
-  first-node : GoodField s 2 → lengthAt s 2 ≤ 4
+  first-node : GoodField s 2 → lengthAt s 2 ≤ 5
   first-node g =
-      let r = node-tag 0 (tagAt s 2) (g .tag) in
-      first-most s (bodyAt s 2) (tagAt s 2) (lengthAt s 2) (r .0) (r .1) (g .len) (g .children)
+      first-most s (bodyAt s 2) (tagAt s 2) (lengthAt s 2) (node-tag 0 (tagAt s 2) (g .tag)) (g .len) (g .children)
 
-  -- node j ends before 272 + 35 × j
-  ends-most : (j : ℕ) → Passed s (j + 3) → fieldAt s (j + 3) ≤ 272 + 35 * j
+  -- node j ends before 273 + 35 × j
+  ends-most : (j : ℕ) → Passed s (j + 3) → fieldAt s (j + 3) ≤ 273 + 35 * j
   ends-most zero p =
       let f = bus-row s (p 0 (omega arith)) .1 in
       let w = is-within 1 256 (wordAt s 7) (starts-row s f (p 1 (omega arith)) .1) .1 in

@@ -1,20 +1,23 @@
 -- Demand 1: an image is refused for a reason at a place if and only if the condition of that row of the table holds there, and accepted
 -- if and only if none holds. Each way follows the fields that are good before: the scan passes them, and the next test decides.
 use mathlib.Core.Path.{_≡_, refl, sym, _∙_, subst}
+use mathlib.Core.Logic.{_⊎_, inl, inr}
 use mathlib.Core.Bool.{false}
 use mathlib.Core.List.{List}
-use Prim.Native.Nat.{ℕ, _+_, _-_, _≤_, _<_}
+use Prim.Native.Nat.{ℕ, suc, _+_, _-_, _*_, _≤_, _<_}
 use native.Mathlib.Omega.{arith}
 use lib.ListN.{length}
 use lib.Dec.{ltb}
 use borrow.Author.Tests.{lt-ltb, le-ltb, lt-leb}
+use Rattle.runs.specs.Lines.{power}
 use Rattle.runs.specs.Nodes.{depth, visits}
+use Rattle.image.specs.Bytes.{byteAt}
 use Rattle.image.specs.Fields.{fieldOf}
-use Rattle.image.specs.Nodes.{fieldAt, treeAt}
+use Rattle.image.specs.Nodes.{fieldAt, linesOf, treeAt}
 use Rattle.image.specs.Judged.{numberOf, scan, wholeOf, judged}
-use Rattle.image.specs.Conditions.{lengthAt, bodyAt, Passed, Complete, Condition, head-cut, wrong-tag, one-more, wrong-length, body-cut, wrong-value, not-below, no-node, too-deep, too-long, Accepting}
+use Rattle.image.specs.Conditions.{lengthAt, bodyAt, Passed, Complete, Condition, head-cut, wrong-tag, one-more, wrong-length, body-cut, wrong-value, not-below, no-node, too-deep, too-long, too-wide, Accepting}
 use Rattle.image.specs.declared.Refusal.{Refusal}
-use Rattle.image.specs.declared.Refusal.the-variants.{Cut, Tag, Full, Length, Value, Forward, Unfinished, Deep, Long}
+use Rattle.image.specs.declared.Refusal.the-variants.{Cut, Tag, Full, Length, Value, Forward, Unfinished, Deep, Long, Table, Lines}
 use Rattle.image.specs.declared.fields.Judgement.the-variants.{Bad}
 use Rattle.image.specs.declared.fields.End.the-variants.{Whole}
 use Rattle.image.specs.declared.Task.{Task}
@@ -57,6 +60,18 @@ module _ (s : List ℕ) where
   refused-when Long _ (too-long n c d v) =
       let e : n + 3 - 3 ≡ n = omega arith in
       whole (n + 3) c ∙ simp (le-ltb (n + 3) 3 (omega arith), e, le-ltb 24 (depth (treeAt s n)) d, lt-ltb 100000 (visits (treeAt s n)) v)
+  refused-when Lines _ (too-wide n c d v w) =
+      let e : n + 3 - 3 ≡ n = omega arith in
+      let f : n + 3 - 2 ≡ suc n = omega arith in
+      whole (n + 3) c
+      ∙ simp (
+        le-ltb (n + 3) 3 (omega arith),
+        e,
+        f,
+        le-ltb 24 (depth (treeAt s n)) d,
+        le-ltb 100000 (visits (treeAt s n)) v,
+        lt-ltb 1024 (byteAt s 3 * byteAt s 4 * power (linesOf s (suc n))) w,
+      )
 
   pub when-refused : (r : Refusal) (place : ℕ) → judged s ≡ Refused r place → Condition s r place
   when-refused r place e = subst (VerdictSays s) e (says s)
@@ -81,25 +96,29 @@ module _ (s : List ℕ) where
         q,
         le-ltb 24 (depth (treeAt s (t .entry))) (a .shallow),
         le-ltb 100000 (visits (treeAt s (t .entry))) (a .short),
+        sym (a .lines),
+        sym (a .sets),
+        le-ltb 1024 (byteAt s 3 * byteAt s 4 * t .sets) (a .narrow),
         sym (a .bus),
         sym (a .starts),
       )
 
-  -- judging answers the first nine of the list
-  pub first-nine : (r : Refusal) (place : ℕ) → judged s ≡ Refused r place → numberOf r ≤ 9
-  first-nine r place e = nine (when-refused r place e)
+  -- judging answers the first nine of the list, and 18
+  pub own-numbers : (r : Refusal) (place : ℕ) → judged s ≡ Refused r place → (numberOf r ≤ 9) ⊎ (numberOf r ≡ 18)
+  own-numbers r place e = own (when-refused r place e)
     where
-      nine : {r′ : Refusal} {place′ : ℕ} → Condition s r′ place′ → numberOf r′ ≤ 9
-      nine (head-cut k p l h) = omega arith
-      nine (wrong-tag k p h t) = omega arith
-      nine (one-more p h t) = omega arith
-      nine (wrong-length k p h t f l) = omega arith
-      nine (body-cut k p h t f l b) = omega arith
-      nine (wrong-value k p h t f l b v) = omega arith
-      nine (not-below k p h t f l b v c) = omega arith
-      nine (no-node n c h) = omega arith
-      nine (too-deep n c h) = omega arith
-      nine (too-long n c h v) = omega arith
+      own : {r′ : Refusal} {place′ : ℕ} → Condition s r′ place′ → (numberOf r′ ≤ 9) ⊎ (numberOf r′ ≡ 18)
+      own (head-cut k p l h) = inl (omega arith)
+      own (wrong-tag k p h t) = inl (omega arith)
+      own (one-more p h t) = inl (omega arith)
+      own (wrong-length k p h t f l) = inl (omega arith)
+      own (body-cut k p h t f l b) = inl (omega arith)
+      own (wrong-value k p h t f l b v) = inl (omega arith)
+      own (not-below k p h t f l b v c) = inl (omega arith)
+      own (no-node n c h) = inl (omega arith)
+      own (too-deep n c h) = inl (omega arith)
+      own (too-long n c h v) = inl (omega arith)
+      own (too-wide n c h v w) = inr refl
 
   -- "The first that holds is returned; an image is accepted when none holds."
   pub accepted-if-none : ((r : Refusal) (place : ℕ) → Condition s r place → ⊥) → (t : Task) × (judged s ≡ Accepted t)

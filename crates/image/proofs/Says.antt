@@ -2,20 +2,21 @@
 use mathlib.Core.Path.{_≡_, refl, sym, subst}
 use mathlib.Core.Bool.{Bool, true, false, not}
 use mathlib.Core.List.{List}
-use Prim.Native.Nat.{ℕ, zero, suc, _+_, _-_, _≤_, _<_}
+use Prim.Native.Nat.{ℕ, zero, suc, _+_, _-_, _*_, _≤_, _<_}
 use native.Mathlib.Omega.{arith}
 use native.Mathlib.Numerals.{add-one}
 use lib.ListN.{length}
 use lib.Dec.{leb, ltb}
 use borrow.Author.Tests.{ltb-true, ltb-false, leb-true, leb-false, not-true, not-false}
+use Rattle.runs.specs.Lines.{power}
 use Rattle.runs.specs.Nodes.{depth, visits}
-use Rattle.image.specs.Bytes.{wordAt}
+use Rattle.image.specs.Bytes.{byteAt, wordAt}
 use Rattle.image.specs.Fields.{tagOk, lengthOk, valueOk, childrenOk, refuse, fieldOf, busOf}
-use Rattle.image.specs.Nodes.{fieldAt, treeAt}
+use Rattle.image.specs.Nodes.{fieldAt, linesOf, treeAt}
 use Rattle.image.specs.Judged.{pickEnd, onField, scanFrom, scan, refuseAll, wholeOf, onEnd, judged}
-use Rattle.image.specs.Conditions.{tagAt, lengthAt, bodyAt, GoodField, Passed, Complete, Condition, head-cut, wrong-tag, one-more, wrong-length, body-cut, wrong-value, not-below, no-node, too-deep, too-long, Accepting}
+use Rattle.image.specs.Conditions.{tagAt, lengthAt, bodyAt, GoodField, Passed, Complete, Condition, head-cut, wrong-tag, one-more, wrong-length, body-cut, wrong-value, not-below, no-node, too-deep, too-long, too-wide, Accepting}
 use Rattle.image.specs.declared.Refusal.{Refusal}
-use Rattle.image.specs.declared.Refusal.the-variants.{Cut, Tag, Full, Length, Value, Forward, Unfinished, Deep, Long}
+use Rattle.image.specs.declared.Refusal.the-variants.{Cut, Tag, Full, Length, Value, Forward, Unfinished, Deep, Long, Lines}
 use Rattle.image.specs.declared.fields.Judgement.{Judgement}
 use Rattle.image.specs.declared.fields.Judgement.the-variants.{Good, Bad}
 use Rattle.image.specs.declared.fields.End.{End}
@@ -120,7 +121,9 @@ module _ (s : List ℕ) where
   whole-says : (n : ℕ) → Complete s n → VerdictSays (wholeOf s n)
   unfolding wholeOf
   whole-says n c =
-      let p3 = Accepted (record { bus = busOf s; starts = wordAt s 7; nodes = n - 2; entry = n - 3 }) in
+      let x = linesOf s (n - 2) in
+      let p4 = Accepted (record { bus = busOf s; starts = wordAt s 7; lines = x; sets = power x; nodes = n - 2; entry = n - 3 }) in
+      let p3 = refuseAll (ltb 1024 (byteAt s 3 * byteAt s 4 * power x)) Lines (length s) p4 in
       let p2 = refuseAll (ltb 100000 (visits (treeAt s (n - 3)))) Long (length s) p3 in
       let p1 = refuseAll (ltb 24 (depth (treeAt s (n - 3)))) Deep (length s) p2 in
       by-all VerdictSays (ltb n 3) Unfinished (length s) p1
@@ -133,14 +136,21 @@ module _ (s : List ℕ) where
       (λ e2. let d = ltb-false 24 (depth (treeAt s (n - 3))) e2 in
       by-all VerdictSays (ltb 100000 (visits (treeAt s (n - 3)))) Long (length s) p3
       (λ e. too-long (n - 3) (subst (Complete s) q c) d (ltb-true 100000 _ e))
-      (λ e3. record {
+      (λ e3. let v = ltb-false 100000 (visits (treeAt s (n - 3))) e3 in
+      by-all VerdictSays (ltb 1024 (byteAt s 3 * byteAt s 4 * power x)) Lines (length s) p4
+      (λ e. let m : n - 2 ≡ suc (n - 3) = omega arith in
+      too-wide (n - 3) (subst (Complete s) q c) d v (subst (λ (z : ℕ). 1024 < byteAt s 3 * byteAt s 4 * power (linesOf s z)) m (ltb-true 1024 _ e)))
+      (λ e4. record {
         complete = subst (Complete s) w c;
         last = omega arith;
         shallow = d;
-        short = ltb-false 100000 _ e3;
+        short = v;
         bus = refl;
         starts = refl;
-      })))
+        lines = refl;
+        sets = refl;
+        narrow = ltb-false 1024 _ e4;
+      }))))
 
   pub says : VerdictSays (judged s)
   unfolding judged

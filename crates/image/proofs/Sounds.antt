@@ -19,13 +19,14 @@ use Rattle.image.specs.Promise.{Starts, Fine, Sound, Standing}
 use Rattle.image.specs.Inner.{Placed}
 use Rattle.bus.specs.declared.Bus.{Bus}
 use Rattle.image.specs.declared.nodes.Node.{Node}
-use Rattle.image.specs.declared.nodes.Node.the-variants.{Plain, Bus as Block, Sequence, Branch, Loop}
+use Rattle.image.specs.declared.nodes.Node.the-variants.{Plain, Bus as Block, Once, Sequence, Branch, Loop}
 use Rattle.image.specs.declared.Task.{Task}
 use Rattle.image.specs.declared.Verdict.the-variants.{Accepted}
 use Rattle.image.proofs.Lists.{words-some, is-listed}
 use Rattle.image.proofs.Passing.{few, fewer, inside}
 use Rattle.image.proofs.Kept.{node-fine, bus-fine, starts-fine}
 use Rattle.image.proofs.Levels.{falls}
+use Rattle.image.proofs.Fetches.{lines-few}
 use Rattle.image.proofs.Reasons.{when-accepted}
 
 module _ (s : List ℕ) (t : Task) (a : Accepting s t) where
@@ -57,6 +58,10 @@ module _ (s : List ℕ) (t : Task) (a : Accepting s t) where
         fine = node-kept;
         shallow = a .shallow;
         short = a .short;
+        lines-is = a .lines;
+        lines-few = rw (a .lines) (lines-few s (t .nodes) (a .complete .passed));
+        sets-is = a .sets;
+        narrow = rw (a .bus) (a .narrow);
       }
 
 -- the ranges of a node's row are those that the theorem asks for
@@ -64,6 +69,7 @@ in-range : (s : List ℕ) (b : Bus) (own : ℕ) (x : Node) → b .slot ≡ byteA
 unfolding meant Fine equal
 in-range s b own (Plain p) e f = (f .order, f .most)
 in-range s b own (Block k) e f = (f .0, f .1, rw e (f .2))
+in-range s b own (Once x) e f = (f .1, f .2, rw e (f .3), f .4)
 in-range s b own (Sequence c) e f = tt
 in-range s b own (Branch c) e f = words-some s (c .place) (c .count) (omega (arith, f .0))
 in-range s b own (Loop l) e f = f .0

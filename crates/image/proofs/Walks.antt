@@ -14,16 +14,19 @@ use Rattle.runs.proofs.Whole.{node-valid}
 use Rattle.bus.specs.Waits.{slotsOf}
 use Rattle.image.specs.Bytes.{byteAt, wordAt}
 use Rattle.image.specs.Nodes.{nodeOf, meant, kindMeant, treeAt, childTrees, taskOf}
+use Rattle.runs.specs.Nodes.{lineOf}
 use Rattle.image.specs.Promise.{Fine, Standing}
 use Rattle.image.specs.Walks.{Walkable, Named}
 use Rattle.image.specs.declared.Task.{Task}
-use Rattle.image.specs.declared.nodes.Node.the-variants.{Plain, Bus as Block, Sequence, Branch, Loop}
+use Rattle.image.specs.declared.nodes.Node.the-variants.{Plain, Bus as Block, Once, Sequence, Branch, Loop}
 use Rattle.image.specs.declared.nodes.Plain.{Plain as PlainNumbers}
 use Rattle.image.specs.declared.nodes.BusBlock.{BusBlock}
+use Rattle.image.specs.declared.nodes.Once.{Once as OnceNumbers}
 use Rattle.image.specs.declared.nodes.Children.{Children}
 use Rattle.image.specs.declared.nodes.Loop.{Loop as LoopNumbers}
 use Rattle.image.proofs.Lists.{words-step, words-none}
-use Rattle.image.proofs.Levels.{inside-here, few-here, fine-here, tree-here}
+use Rattle.image.proofs.Levels.{inside-here, few-here, fine-here, node-here, tree-here}
+use Rattle.image.proofs.Fetches.{line-below}
 use Rattle.image.proofs.Sounds.{standing}
 
 -- ---- children: child i, and those after it
@@ -88,6 +91,15 @@ module _ (s : List ℕ) (t : Task) (places : List ℕ) (w : Walkable s t places)
     as-block b e =
         let f = fine-here s n _ here (Block b) e in
         (tree-here s n _ here (Block b) e, f .0, f .1, rw (w .sound .bus-is) (f .2))
+
+    pub as-once : (x : OnceNumbers) → nodeOf s (getD places n 0) ≡ Once x
+        → (treeAt s n ≡ Tree.once (x .line) (x .lowest) (x .highest) (x .hit)) × (1 ≤ x .lowest) × (x .lowest ≤ x .highest)
+        × (x .highest ≤ t .bus .slot) × (x .hit ≤ 65535) × (x .line < t .lines)
+    unfolding meant treeBy Fine
+    as-once x e =
+        let f = fine-here s n _ here (Once x) e in
+        let l : x .line + 1 ≤ t .lines = rw (w .sound .lines-is, ← ap lineOf (node-here s n _ here (Once x) e)) (line-below s n (t .nodes) (omega (arith, w .sound .last))) in
+        (tree-here s n _ here (Once x) e, f .1, f .2, rw (w .sound .bus-is) (f .3), f .4, omega arith)
 
     pub as-sequence : (c : Children) → nodeOf s (getD places n 0) ≡ Sequence c
         → (treeAt s n ≡ Tree.sequence (childTrees s (c .place) (c .count))) × Named s (c .place) (c .count) n

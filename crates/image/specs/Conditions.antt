@@ -1,18 +1,19 @@
--- The table of "When no figure is given" of document 01, numbers 1 to 9, row by row: when an image is refused, for what and at which
+-- The table of "When no figure is given" of document 01, numbers 1 to 9 and 18, row by row: when an image is refused, for what and at which
 -- place. No order of steps is in it: each condition names what comes before it. proofs/Reasons.antt proves that the verdict is a
 -- refusal for r at a place if and only if `Condition s r place`. Definitions only.
 use mathlib.Core.Path.{_≡_}
 use mathlib.Core.Bool.{true, false}
 use mathlib.Core.List.{List}
-use Prim.Native.Nat.{ℕ, suc, _+_, _≤_, _<_}
+use Prim.Native.Nat.{ℕ, suc, _+_, _*_, _≤_, _<_}
 use lib.ListN.{length}
+use Rattle.runs.specs.Lines.{power}
 use Rattle.runs.specs.Nodes.{depth, visits}
 use Rattle.image.specs.Bytes.{byteAt, wordAt}
 use Rattle.image.specs.Fields.{tagOk, lengthOk, valueOk, childrenOk, busOf}
-use Rattle.image.specs.Nodes.{fieldAt, treeAt}
+use Rattle.image.specs.Nodes.{fieldAt, linesOf, treeAt}
 use Rattle.image.specs.declared.Task.{Task}
 use Rattle.image.specs.declared.Refusal.{Refusal}
-use Rattle.image.specs.declared.Refusal.the-variants.{Cut, Tag, Full, Length, Value, Forward, Unfinished, Deep, Long}
+use Rattle.image.specs.declared.Refusal.the-variants.{Cut, Tag, Full, Length, Value, Forward, Unfinished, Deep, Long, Lines}
 
 -- of the field with k fields before it: its tag, the length of its body, and where the body stands
 abbrev pub tagAt : List ℕ → ℕ → ℕ
@@ -70,6 +71,9 @@ pub data Condition (s : List ℕ) : Refusal → ℕ → Type 0 where
   too-deep : (n : ℕ) → Complete s (n + 3) → 24 < depth (treeAt s n) → Condition s Deep (length s)
   -- 9: "entry's visits above 100,000"
   too-long : (n : ℕ) → Complete s (n + 3) → depth (treeAt s n) ≤ 24 → 100000 < visits (treeAt s n) → Condition s Long (length s)
+  -- 18 (W9): "period × 2 to the number of lines exceeds 1,024, judged after 9 and before 10, with the image's length as place"
+  too-wide : (n : ℕ) → Complete s (n + 3) → depth (treeAt s n) ≤ 24 → visits (treeAt s n) ≤ 100000
+      → 1024 < byteAt s 3 * byteAt s 4 * power (linesOf s (suc n)) → Condition s Lines (length s)
 
 -- "an image is accepted when none holds": the good fields fill it, the last node is the entry, and the task is what they say
 pub record Accepting (s : List ℕ) (t : Task) : Type 0 where
@@ -79,8 +83,11 @@ pub record Accepting (s : List ℕ) (t : Task) : Type 0 where
   pub short : visits (treeAt s (t .entry)) ≤ 100000
   pub bus : t .bus ≡ busOf s
   pub starts : t .starts ≡ wordAt s 7
+  pub lines : t .lines ≡ linesOf s (t .nodes)
+  pub sets : t .sets ≡ power (t .lines)
+  pub narrow : byteAt s 3 * byteAt s 4 * t .sets ≤ 1024
 
--- "a valid image has at most 9,197": 6 bytes for the bus, 259 for the starts, 7 for node 0, which is a block, and 35 for each of 255 more nodes
+-- the longest valid image: 6 bytes for the bus, 259 for the starts, 8 for node 0, a block of tag 10 (W9), and 35 for each of 255 more nodes
 -- (`longest` of proofs/Longest.antt)
 abbrev pub longestImage : ℕ
-longestImage = 9197
+longestImage = 9198

@@ -24,9 +24,9 @@ abbrev pub choose : Bool → Bool → Bool → Bool
 choose true a b = a
 choose false a b = b
 
--- "Field 1 comes first, field 2 second, then 1 to 256 node fields (tags 3 to 7)": the tag of the field with `index` fields before it
+-- "Field 1 comes first, field 2 second, then 1 to 256 node fields (tags 3 to 7)", and with W9 tag 10: the tag of the field with `index` fields before it
 unfoldable pub tagOk : ℕ → ℕ → Bool
-tagOk index tag = choose (eqb index 0) (eqb tag 1) (choose (eqb index 1) (eqb tag 2) (within 3 7 tag))
+tagOk index tag = choose (eqb index 0) (eqb tag 1) (choose (eqb index 1) (eqb tag 2) (choose (eqb tag 10) true (within 3 7 tag)))
 
 -- "Body length", row by row
 unfoldable pub lengthOk : ℕ → ℕ → Bool
@@ -37,7 +37,8 @@ lengthOk tag n =
     (choose (eqb tag 4) (eqb n 3)
     (choose (eqb tag 5) (evenWithin 2 32 n)
     (choose (eqb tag 6) (evenWithin 4 16 n)
-    (choose (eqb tag 7) (eqb n 6) false))))))
+    (choose (eqb tag 7) (eqb n 6)
+    (choose (eqb tag 10) (eqb n 5) false)))))))
 
 -- row 1: "cores 2 to 16, slot 1 to 128, core number below cores; cores × slot at most 256"
 unfoldable pub busOk : ℕ → ℕ → ℕ → Bool
@@ -54,12 +55,19 @@ unfoldable pub plainOk : ℕ → ℕ → Bool
 plainOk lowest highest = leb highest 65535 && (leb lowest highest && leb (highest - lowest) 63)
 
 -- row 4: "kind (1 may access, 2 always accesses)", "1 ≤ lowest ≤ highest ≤ slot"
+unfoldable pub accessOk : ℕ → ℕ → ℕ → Bool
+accessOk lowest highest slot = leb 1 lowest && (leb lowest highest && leb highest slot)
+
 unfoldable pub blockOk : ℕ → ℕ → ℕ → ℕ → Bool
-blockOk kind lowest highest slot = within 1 2 kind && (leb 1 lowest && (leb lowest highest && leb highest slot))
+blockOk kind lowest highest slot = within 1 2 kind && accessOk lowest highest slot
 
 -- row 7: "least ≤ greatest ≤ 10,000"
 unfoldable pub loopOk : ℕ → ℕ → Bool
 loopOk least greatest = leb least greatest && leb greatest 10000
+
+-- row 10 (W9): "a line number 0 to 3, lowest and highest bus duration as in tag 4, and a two-byte hit time"
+unfoldable pub onceOk : ℕ → ℕ → ℕ → ℕ → ℕ → Bool
+onceOk line lowest highest hit slot = leb line 3 && (leb hit 65535 && accessOk lowest highest slot)
 
 -- the bus of field 1, whose body stands at place 3
 abbrev pub busOf : List ℕ → Bus
@@ -72,7 +80,8 @@ valueOk s tag body n =
     (choose (eqb tag 2) (startsOk s body n 0 (busOf s .cores * busOf s .slot))
     (choose (eqb tag 3) (plainOk (wordAt s body) (wordAt s (body + 2)))
     (choose (eqb tag 4) (blockOk (byteAt s body) (byteAt s (body + 1)) (byteAt s (body + 2)) (busOf s .slot))
-    (choose (eqb tag 7) (loopOk (wordAt s body) (wordAt s (body + 2))) true))))
+    (choose (eqb tag 7) (loopOk (wordAt s body) (wordAt s (body + 2)))
+    (choose (eqb tag 10) (onceOk (byteAt s body) (byteAt s (body + 1)) (byteAt s (body + 2)) (wordAt s (body + 3)) (busOf s .slot)) true)))))
 
 -- the n child numbers from a place on are each below that of the node naming them; node i is the field with i + 2 fields before it
 unfoldable pub below : List ℕ → ℕ → ℕ → ℕ → Bool

@@ -1,17 +1,18 @@
 -- The verdict on an image (document 01, "When no figure is given"): fields from the front, then 7, 8, 9. Definitions only.
 use mathlib.Core.Bool.{Bool, true, false}
 use mathlib.Core.List.{List}
-use Prim.Native.Nat.{ℕ, zero, suc, _+_, _-_}
+use Prim.Native.Nat.{ℕ, zero, suc, _+_, _-_, _*_}
 use Prim.Native.String.{String}
 use lib.ListN.{length}
 use lib.Dec.{leb, ltb}
+use Rattle.runs.specs.Lines.{power}
 use Rattle.runs.specs.Nodes.{depth, visits}
 use Rattle.runs.specs.Runs.{Task as RunTask}
-use Rattle.image.specs.Bytes.{wordAt}
+use Rattle.image.specs.Bytes.{byteAt, wordAt}
 use Rattle.image.specs.Fields.{fieldOf, busOf}
-use Rattle.image.specs.Nodes.{treeAt, taskOf}
+use Rattle.image.specs.Nodes.{treeAt, linesOf, taskOf}
 use Rattle.image.specs.declared.Refusal.{Refusal}
-use Rattle.image.specs.declared.Refusal.the-variants.{Cut, Tag, Full, Length, Value, Forward, Unfinished, Deep, Long, Table, Register, Busy, Forbidden, Block}
+use Rattle.image.specs.declared.Refusal.the-variants.{Cut, Tag, Full, Length, Value, Forward, Unfinished, Deep, Long, Table, Register, Busy, Forbidden, Lines, Block}
 use Rattle.image.specs.declared.fields.Judgement.{Judgement}
 use Rattle.image.specs.declared.fields.Judgement.the-variants.{Good, Bad}
 use Rattle.image.specs.declared.fields.End.{End}
@@ -34,6 +35,7 @@ numberOf Table = 10
 numberOf Register = 15
 numberOf Busy = 16
 numberOf Forbidden = 17
+numberOf Lines = 18
 numberOf Block = 19
 
 -- "Word"
@@ -51,6 +53,7 @@ wordOf Table = "table"
 wordOf Register = "register"
 wordOf Busy = "busy"
 wordOf Forbidden = "forbidden"
+wordOf Lines = "lines"
 wordOf Block = "block"
 
 abbrev pub pickEnd : Bool → End → End → End
@@ -76,13 +79,21 @@ abbrev pub refuseAll : Bool → Refusal → ℕ → Verdict → Verdict
 refuseAll true r place rest = Refused r place
 refuseAll false r place rest = rest
 
--- "Then 7, 8, 9", of an image whose n fields are all good: n - 2 nodes, of which the last, number n - 3, is the entry
+-- "Then 7, 8, 9", and with W9 18, of an image whose n fields are all good: n - 2 nodes, of which the last, number n - 3, is the entry
 unfoldable pub wholeOf : List ℕ → ℕ → Verdict
 wholeOf s n =
     refuseAll (ltb n 3) Unfinished (length s)
     (refuseAll (ltb 24 (depth (treeAt s (n - 3)))) Deep (length s)
     (refuseAll (ltb 100000 (visits (treeAt s (n - 3)))) Long (length s)
-    (Accepted (record { bus = busOf s; starts = wordAt s 7; nodes = n - 2; entry = n - 3 }))))
+    (refuseAll (ltb 1024 (byteAt s 3 * byteAt s 4 * power (linesOf s (n - 2)))) Lines (length s)
+    (Accepted (record {
+      bus = busOf s;
+      starts = wordAt s 7;
+      lines = linesOf s (n - 2);
+      sets = power (linesOf s (n - 2));
+      nodes = n - 2;
+      entry = n - 3;
+    })))))
 
 abbrev pub onEnd : List ℕ → End → Verdict
 onEnd s (Stopped r at) = Refused r at

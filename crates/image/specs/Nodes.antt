@@ -5,14 +5,14 @@ use mathlib.Core.List.{List}
 use Prim.Native.Nat.{ℕ, zero, suc, _+_, _/_}
 use lib.Dec.{eqb}
 use Rattle.runs.specs.Slots.{equal}
-use Rattle.runs.specs.Nodes.{Kind as RunKind, may, always, Node as RunNode, Tree, Trees, tree, trees}
+use Rattle.runs.specs.Nodes.{Kind as RunKind, may, always, Node as RunNode, Tree, Trees, tree, trees, linesTo}
 use Rattle.runs.specs.Runs.{Task as RunTask}
 use Rattle.image.specs.Bytes.{byteAt, wordAt, bytes, words}
 use Rattle.bus.specs.Waits.{slotsOf}
 use Rattle.image.specs.declared.nodes.Kind.{Kind}
 use Rattle.image.specs.declared.nodes.Kind.the-variants.{May, Always}
 use Rattle.image.specs.declared.nodes.Node.{Node}
-use Rattle.image.specs.declared.nodes.Node.the-variants.{Plain, Bus as Block, Sequence, Branch, Loop}
+use Rattle.image.specs.declared.nodes.Node.the-variants.{Plain, Bus as Block, Once, Sequence, Branch, Loop}
 use Rattle.image.specs.declared.Task.{Task}
 
 -- "Every field is a one-byte tag, a two-byte length of its body, and the body": where the field with k fields before it stands
@@ -32,7 +32,7 @@ abbrev pub pickNode : Bool → Node → Node → Node
 pickNode true a b = a
 pickNode false a b = b
 
--- "Body", rows 3 to 7: the node of a tag whose body of n bytes stands at a place
+-- "Body", rows 3 to 7 and 10: the node of a tag whose body of n bytes stands at a place
 unfoldable pub nodeFrom : List ℕ → ℕ → ℕ → ℕ → Node
 nodeFrom s tag body n =
     pickNode (eqb tag 3) (Plain (record { lowest = wordAt s body; highest = wordAt s (body + 2) }))
@@ -40,7 +40,9 @@ nodeFrom s tag body n =
     (Block (record { kind = kindOf (byteAt s body); lowest = byteAt s (body + 1); highest = byteAt s (body + 2) }))
     (pickNode (eqb tag 5) (Sequence (record { place = body; count = n / 2 }))
     (pickNode (eqb tag 6) (Branch (record { place = body; count = n / 2 }))
-    (Loop (record { least = wordAt s body; greatest = wordAt s (body + 2); body = wordAt s (body + 4) })))))
+    (pickNode (eqb tag 10)
+    (Once (record { line = byteAt s body; lowest = byteAt s (body + 1); highest = byteAt s (body + 2); hit = wordAt s (body + 3) }))
+    (Loop (record { least = wordAt s body; greatest = wordAt s (body + 2); body = wordAt s (body + 4) }))))))
 
 -- the node whose field stands at a place, as the code has it: child numbers stay in the image
 abbrev pub nodeOf : List ℕ → ℕ → Node
@@ -59,6 +61,7 @@ kindMeant Always = always
 unfoldable pub meant : List ℕ → Node → RunNode
 meant s (Plain p) = RunNode.plain (p .lowest) (p .highest)
 meant s (Block b) = RunNode.bus (kindMeant (b .kind)) (b .lowest) (b .highest)
+meant s (Once x) = RunNode.once (x .line) (x .lowest) (x .highest) (x .hit)
 meant s (Sequence c) = RunNode.sequence (children s (c .place) (c .count))
 meant s (Branch c) = RunNode.branch (children s (c .place) (c .count))
 meant s (Loop l) = RunNode.loop (l .least) (l .greatest) (l .body)
@@ -74,10 +77,14 @@ treeAt s n = tree (nodeAt s) n
 abbrev pub childTrees : List ℕ → ℕ → ℕ → Trees
 childTrees s place n = trees (λ k. tree (nodeAt s) k) (children s place n)
 
+-- "Lines are one more than the highest line number in the image, or 0" (W9), of an image of n nodes: those that the entry does not reach count too
+abbrev pub linesOf : List ℕ → ℕ → ℕ
+linesOf s n = linesTo (nodeAt s) n
+
 -- field 2: field 1 has six bytes, so its length stands at 7 and its body at 9
 abbrev pub startsOf : List ℕ → List ℕ
 startsOf s = bytes s 9 (wordAt s 7)
 
 -- what an accepted image says: "The last node is the entry."
 abbrev pub taskOf : List ℕ → Task → RunTask
-taskOf s t = record { bus = equal (slotsOf (t .bus)); starts = startsOf s; nodeAt = nodeAt s; entry = t .entry }
+taskOf s t = record { bus = equal (slotsOf (t .bus)); starts = startsOf s; lines = t .lines; nodeAt = nodeAt s; entry = t .entry }

@@ -3,15 +3,16 @@ use mathlib.Core.Path.{_≡_}
 use mathlib.Core.List.{List}
 use Prim.Native.Nat.{ℕ, suc, _+_, _-_, _*_, _≤_, _<_}
 use lib.ListN.{length, getD}
+use Rattle.runs.specs.Lines.{power}
 use Rattle.runs.specs.Nodes.{depth, visits}
 use Rattle.image.specs.Bytes.{byteAt, wordAt}
 use Rattle.image.specs.Fields.{busOf}
-use Rattle.image.specs.Nodes.{fieldAt, nodeOf, treeAt}
+use Rattle.image.specs.Nodes.{fieldAt, nodeOf, linesOf, treeAt}
 use Rattle.image.specs.Judged.{judged, outcomeOf, outcome}
 use Rattle.image.specs.Conditions.{Passed, Complete, Condition}
 use Rattle.bus.specs.Waits.{Ranges}
 use Rattle.image.specs.declared.nodes.Node.{Node}
-use Rattle.image.specs.declared.nodes.Node.the-variants.{Plain, Bus as Block, Sequence, Branch, Loop}
+use Rattle.image.specs.declared.nodes.Node.the-variants.{Plain, Bus as Block, Once, Sequence, Branch, Loop}
 use Rattle.image.specs.declared.Refusal.{Refusal}
 use Rattle.image.specs.declared.Task.{Task}
 use Rattle.image.specs.declared.Verdict.{Verdict}
@@ -34,10 +35,11 @@ pub record Durations (lowest highest : ℕ) : Type 0 where
   pub order : lowest ≤ highest
   pub near : highest - lowest ≤ 63
 
--- rows 3 to 7: the numbers of the node with the number `own`
+-- rows 3 to 7 and 10: the numbers of the node with the number `own`
 unfoldable pub Fine : List ℕ → ℕ → Node → Type 0
 Fine s own (Plain p) = Durations (p .lowest) (p .highest)
 Fine s own (Block b) = (1 ≤ b .lowest) × (b .lowest ≤ b .highest) × (b .highest ≤ byteAt s 4)
+Fine s own (Once x) = (x .line ≤ 3) × (1 ≤ x .lowest) × (x .lowest ≤ x .highest) × (x .highest ≤ byteAt s 4) × (x .hit ≤ 65535)
 Fine s own (Sequence c) = (1 ≤ c .count) × (c .count ≤ 16) × (c .place + 2 * c .count ≤ length s) × NamesBelow s (c .place) (c .count) own
 Fine s own (Branch c) = (2 ≤ c .count) × (c .count ≤ 8) × (c .place + 2 * c .count ≤ length s) × NamesBelow s (c .place) (c .count) own
 Fine s own (Loop l) = (l .least ≤ l .greatest) × (l .greatest ≤ 10000) × (l .body < own)
@@ -57,6 +59,10 @@ pub record Sound (s : List ℕ) (t : Task) (places : List ℕ) : Type 0 where
   pub fine : (k : ℕ) → k < t .nodes → Fine s k (nodeOf s (fieldAt s (k + 2)))
   pub shallow : depth (treeAt s (t .entry)) ≤ 24
   pub short : visits (treeAt s (t .entry)) ≤ 100000
+  pub lines-is : t .lines ≡ linesOf s (t .nodes)
+  pub lines-few : t .lines ≤ 4
+  pub sets-is : t .sets ≡ power (t .lines)
+  pub narrow : t .bus .cores * t .bus .slot * t .sets ≤ 1024
 
 -- node n's field stands at a place, and it and all before it are good
 pub record Standing (s : List ℕ) (n at : ℕ) : Type 0 where

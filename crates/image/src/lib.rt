@@ -6,13 +6,15 @@
 // beside the verdict. For a refused image the places are left free.
 //
 // specs/ has the definitions, in the document's order: Bytes, Fields (the rows, and numbers 1 to 6), Nodes (what a node field means
-// to crate `runs`), Judged (7 to 9, and the verdict), Conditions (the table, row by row), Promise; Inner is between functions of this crate.
-// src/: read (bytes), rows (the rows' rules), fields (the scan), nodes (decoding), weigh (depth and visits), and the verdict here.
+// to crate `runs`), Judged (7 to 9 and 18, and the verdict), Conditions (the table, row by row), Promise; Inner is between functions of this crate.
+// src/: read (bytes), rows (the rows' rules), fields (the scan), nodes (decoding), weigh (depth and visits), fetched (lines), and the verdict here.
 ghost use mathlib.Core.Path.{_≡_};
 ghost use Rattle.image.specs.Judged.{wholeOf, numberOf};
 ghost use Rattle.image.specs.Conditions.{Complete};
 ghost use Rattle.image.specs.Promise.{Judging};
 ghost use Rattle.image.specs.Inner.{Placed};
+use crate::fetched::lines;
+use crate::fetched::power;
 use crate::fields::End;
 use crate::fields::fields;
 use crate::read::bus_at;
@@ -20,14 +22,15 @@ use crate::read::word;
 use crate::weigh::weights;
 use bus::Bus;
 
+pub mod fetched;
 mod fields;
 pub mod nodes;
 pub mod read;
 pub mod rows;
 mod weigh;
 
-// Why there is no answer: the words of the papers' tables but 21, in one list. Judging answers the first nine; `Table` is for what lends a table,
-// and of document 02 `Register`, `Busy` and `Forbidden` for calls to the arbiter (15 to 17), `Block` for one that edits a block (19).
+// Why there is no answer: the words of the papers' tables but 21, in one list. Judging answers the first nine and of document 02 `Lines` (18);
+// `Table` is for what lends a table, and of document 02 `Register`, `Busy` and `Forbidden` for calls to the arbiter (15 to 17), `Block` for one that edits a block (19).
 pub enum Refusal {
     Cut,
     Tag,
@@ -42,13 +45,17 @@ pub enum Refusal {
     Register,
     Busy,
     Forbidden,
+    Lines,
     Block,
 }
 
-// An accepted image: the bus of field 1, the number of start offsets in field 2, the number of nodes, and the last of them.
+// An accepted image: the bus of field 1, the number of start offsets in field 2, the number of lines and of sets of
+// lines, the number of nodes, and the last of them.
 pub struct Task {
     pub bus: Bus,
     pub starts: usize,
+    pub lines: usize,
+    pub sets: usize,
     pub nodes: usize,
     pub entry: usize,
 }
@@ -82,11 +89,12 @@ pub fn number(r: Refusal) -> usize
         Refusal::Register => 15,
         Refusal::Busy => 16,
         Refusal::Forbidden => 17,
+        Refusal::Lines => 18,
         Refusal::Block => 19,
     }
 }
 
-// The verdict on an image whose `count` fields are good and fill it: 7, 8, 9, or accepted.
+// The verdict on an image whose `count` fields are good and fill it: 7, 8, 9, 18, or accepted.
 fn whole(image: &[u8], places: &[usize; 256], count: usize) -> Verdict
     requires { ⌜ (Complete (now image) count) × (Placed (now image) count (now places)) ⌝ }
     ensures { λ r. ⌜ r ≡ wholeOf (now (image .entry)) count ⌝ }
@@ -102,9 +110,16 @@ fn whole(image: &[u8], places: &[usize; 256], count: usize) -> Verdict
         return Verdict::Refused(Refusal::Long, image.len());
     }
     let bus = bus_at(image);
+    let lines = lines(image, places, count - 2);
+    let sets = power(lines);
+    if 1024 < bus.cores * bus.slot * sets {
+        return Verdict::Refused(Refusal::Lines, image.len());
+    }
     Verdict::Accepted(Task {
         bus,
         starts: word(image, 7),
+        lines,
+        sets,
         nodes: count - 2,
         entry: count - 3,
     })

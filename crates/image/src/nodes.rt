@@ -1,4 +1,4 @@
-// A node is one of five kinds, each with its own numbers. Child numbers stay in the image.
+// A node is one of six kinds, each with its own numbers. Child numbers stay in the image.
 ghost use mathlib.Core.Path.{_≡_};
 ghost use Prim.Native.Nat.{_≤_};
 ghost use lib.ListN.{length};
@@ -23,6 +23,14 @@ pub struct BusBlock {
     pub highest: usize,
 }
 
+// Code fetched once: an access the first time that its line is met, and the hit time later.
+pub struct Once {
+    pub line: usize,
+    pub lowest: usize,
+    pub highest: usize,
+    pub hit: usize,
+}
+
 // Where child numbers stand in the image, two bytes each, and how many they are.
 pub struct Children {
     pub place: usize,
@@ -38,6 +46,7 @@ pub struct Loop {
 pub enum Node {
     Plain(Plain),
     Bus(BusBlock),
+    Once(Once),
     Sequence(Children),
     Branch(Children),
     Loop(Loop),
@@ -77,6 +86,12 @@ pub fn node_at(image: &[u8], at: usize) -> Node
         6 => Node::Branch(Children {
             place: body,
             count: len / 2,
+        }),
+        10 => Node::Once(Once {
+            line: byte(image, body),
+            lowest: byte(image, body + 1),
+            highest: byte(image, body + 2),
+            hit: word(image, body + 3),
         }),
         _ => Node::Loop(Loop {
             least: word(image, body),

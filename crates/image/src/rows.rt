@@ -1,7 +1,7 @@
 // The rows of the table of fields: tag, body length, the rules of the body's numbers (5), and child numbers (6).
 ghost use mathlib.Core.Path.{_≡_};
 ghost use Prim.Native.Nat.{_+_, _*_, _<_};
-ghost use Rattle.image.specs.Fields.{within, evenWithin, tagOk, lengthOk, busOk, startsOk, plainOk, blockOk, loopOk, valueOk, below, childrenOk};
+ghost use Rattle.image.specs.Fields.{within, evenWithin, tagOk, lengthOk, busOk, startsOk, plainOk, accessOk, blockOk, onceOk, loopOk, valueOk, below, childrenOk};
 use crate::read::bus_at;
 use crate::read::byte;
 use crate::read::word;
@@ -37,6 +37,7 @@ pub fn tag_ok(index: usize, tag: usize) -> bool
         return tag == 2;
     }
     match tag {
+        10 => true,
         3..=7 => true,
         _ => false,
     }
@@ -53,6 +54,7 @@ pub fn length_ok(tag: usize, len: usize) -> bool
         5 => even_between(2, 32, len),
         6 => even_between(4, 16, len),
         7 => len == 6,
+        10 => len == 5,
         _ => false,
     }
 }
@@ -107,12 +109,10 @@ pub fn plain_ok(lowest: usize, highest: usize) -> bool
     highest - lowest <= 63
 }
 
-fn block_ok(kind: usize, lowest: usize, highest: usize, slot: usize) -> bool
-    ensures { λ r. ⌜ r ≡ blockOk kind lowest highest slot ⌝ }
+// May an access have these durations?
+fn access_ok(lowest: usize, highest: usize, slot: usize) -> bool
+    ensures { λ r. ⌜ r ≡ accessOk lowest highest slot ⌝ }
 {
-    if !between(1, 2, kind) {
-        return false;
-    }
     if lowest < 1 {
         return false;
     }
@@ -120,6 +120,27 @@ fn block_ok(kind: usize, lowest: usize, highest: usize, slot: usize) -> bool
         return false;
     }
     highest <= slot
+}
+
+fn block_ok(kind: usize, lowest: usize, highest: usize, slot: usize) -> bool
+    ensures { λ r. ⌜ r ≡ blockOk kind lowest highest slot ⌝ }
+{
+    if !between(1, 2, kind) {
+        return false;
+    }
+    access_ok(lowest, highest, slot)
+}
+
+fn once_ok(line: usize, lowest: usize, highest: usize, hit: usize, slot: usize) -> bool
+    ensures { λ r. ⌜ r ≡ onceOk line lowest highest hit slot ⌝ }
+{
+    if 3 < line {
+        return false;
+    }
+    if 65535 < hit {
+        return false;
+    }
+    access_ok(lowest, highest, slot)
 }
 
 fn loop_ok(least: usize, greatest: usize) -> bool
@@ -157,6 +178,16 @@ pub fn value_ok(image: &[u8], tag: usize, body: usize, len: usize) -> bool
             )
         }
         7 => loop_ok(word(image, body), word(image, body + 2)),
+        10 => {
+            let bus = bus_at(image);
+            once_ok(
+                byte(image, body),
+                byte(image, body + 1),
+                byte(image, body + 2),
+                word(image, body + 3),
+                bus.slot,
+            )
+        }
         _ => true,
     }
 }

@@ -14,7 +14,7 @@ pub struct Weight {
     pub visits: usize,
 }
 
-fn larger(a: usize, b: usize) -> usize
+pub fn larger(a: usize, b: usize) -> usize
     ensures { λ r. ⌜ r ≡ max a b ⌝ }
 {
     if a < b { b } else { a }
@@ -83,6 +83,10 @@ fn weight_of(
             visits: 0,
         }),
         Node::Bus(_) => above(Weight {
+            depth: 0,
+            visits: 0,
+        }),
+        Node::Once(_) => above(Weight {
             depth: 0,
             visits: 0,
         }),

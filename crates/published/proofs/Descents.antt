@@ -8,12 +8,13 @@ use Rattle.runs.specs.Nodes.{Tree, visits}
 use Rattle.offsets.specs.declared.Set.{Set}
 use Rattle.image.specs.Nodes.{nodeOf, kindMeant, treeAt, childTrees}
 use Rattle.image.specs.declared.Task.{Task}
-use Rattle.image.specs.declared.nodes.Node.the-variants.{Plain, Bus as Block, Sequence, Branch, Loop}
+use Rattle.image.specs.declared.nodes.Node.the-variants.{Plain, Bus as Block, Once, Sequence, Branch, Loop}
 use Rattle.image.specs.declared.nodes.Plain.{Plain as PlainNumbers}
 use Rattle.image.specs.declared.nodes.BusBlock.{BusBlock}
+use Rattle.image.specs.declared.nodes.Once.{Once as OnceNumbers}
 use Rattle.image.specs.declared.nodes.Children.{Children}
 use Rattle.image.specs.declared.nodes.Loop.{Loop as LoopNumbers}
-use Rattle.image.proofs.Walks.{node-place, as-plain, as-block, as-sequence, as-branch, as-loop as loop-node}
+use Rattle.image.proofs.Walks.{node-place, as-plain, as-block, as-once, as-sequence, as-branch, as-loop as loop-node}
 use Rattle.exits.specs.Exits.{PlainReady, BusReady}
 use Rattle.published.specs.declared.Outcome.{Outcome}
 use Rattle.published.specs.Steps.{Ready, ReadyAll, ReadyRepeat, Published, PublishedAll, PublishedAny}
@@ -45,6 +46,16 @@ module _ (s : List ℕ) (k : Task) (places : List ℕ) (node : ℕ) (x : Set) (r
 
     pub block-done : (q : Outcome) → Published (k .bus) (Tree.bus (kindMeant (y .kind)) (y .lowest) (y .highest)) x q → Published (k .bus) (treeAt s node) x q
     block-done q h = rw (as-block s k places (r .walkable) node (r .low) y e .0) h
+
+  -- blocks fetched once
+  module _ (y : OnceNumbers) (e : nodeOf s (getD places node 0) ≡ Once y) where
+    pub once-ready : BusReady (k .bus) (y .lowest) (y .highest) x × (y .hit ≤ 65535)
+    once-ready =
+        let h = as-once s k places (r .walkable) node (r .low) y e in
+        (record { ranges = r .walkable .sound .bus; least = h .1; ordered = h .2; most = h .3; within = r .within }, h .4)
+
+    pub once-done : (q : Outcome) → Published (k .bus) (Tree.once (y .line) (y .lowest) (y .highest) (y .hit)) x q → Published (k .bus) (treeAt s node) x q
+    once-done q h = rw (as-once s k places (r .walkable) node (r .low) y e .0) h
 
   -- sequences
   module _ (c : Children) (e : nodeOf s (getD places node 0) ≡ Sequence c) where

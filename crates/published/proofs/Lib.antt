@@ -1,4 +1,5 @@
 pub mod Joins
+pub mod Fetches
 pub mod Parts
 pub mod Watching
 pub mod Children

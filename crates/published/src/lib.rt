@@ -22,6 +22,7 @@ use image::nodes::Children;
 use image::nodes::Kind;
 use image::nodes::Loop;
 use image::nodes::Node;
+use image::nodes::Once;
 use image::nodes::Plain;
 use offsets::Set;
 
@@ -78,6 +79,20 @@ fn block_outcome(b: Bus, x: BusBlock, s: Set) -> Outcome
             cost,
             exits: exits::access_exits(b, x.lowest, x.highest, s),
         },
+    }
+}
+
+// Algorithm 1 for a block fetched once: the method knows no lines, so the exits of both are joined each time, and the larger cost counts.
+fn once_outcome(b: Bus, x: Once, s: Set) -> Outcome
+    requires { ⌜ (BusReady b (x .lowest) (x .highest) s) × (x .hit ≤ 65535) ⌝ }
+    ensures { λ r. ⌜ Published b (Tree.once (x .line) (x .lowest) (x .highest) (x .hit)) s r ⌝ }
+{
+    let cost = exits::access_cost(b, x.lowest, x.highest, s);
+    let missed = exits::access_exits(b, x.lowest, x.highest, s);
+    let hit = exits::plain_exits(b, x.hit, x.hit, s);
+    Outcome {
+        cost: larger(cost, x.hit as u64),
+        exits: offsets::join(missed, hit),
     }
 }
 
@@ -193,6 +208,7 @@ pub fn walk(image: &[u8], places: &[usize; 256], k: Task, node: usize, s: Set) -
     match n {
         Node::Plain(p) => plain_outcome(b, p, s),
         Node::Bus(x) => block_outcome(b, x, s),
+        Node::Once(x) => once_outcome(b, x, s),
         Node::Sequence(c) => sequence(image, places, k, node, c, s),
         Node::Branch(c) => branch(image, places, k, node, c, s),
         Node::Loop(l) => repeat(image, places, k, node, l, s),

@@ -4,20 +4,27 @@ use mathlib.Core.Path.{_≡_, _∙_, ap}
 use mathlib.Core.List.{List}
 use native.Mathlib.Nat.{mod-add-mod}
 use native.Mathlib.Omega.{arith}
-use Prim.Native.Nat.{ℕ, zero, suc, _+_, _%_}
-use Rattle.runs.specs.Clock.{State, tick, pass, Access, start, hold}
-use Rattle.runs.specs.Runs.{Task, placesOf, Does, DoesAll, DoesTimes, passes, may-pass, accesses, in-order, one-of, repeats, end, next, enough, again}
+use Prim.Native.Nat.{ℕ, zero, suc, _+_, _%_, _<_}
+use Rattle.runs.specs.Clock.{State, withLines, tick, pass, fetched, Access, start, hold}
+use Rattle.runs.specs.Runs.{Task, placesOf, finalOffset, Does, DoesAll, DoesTimes, passes, may-pass, accesses, first-time, later-time, in-order, one-of, repeats, end, next, enough, again}
+use Rattle.runs.proofs.Simulates.{Maps, lines-forgotten}
 
-module _ (t : Task) (c : ℕ) where
+module _ (t : Task) (pos : 0 < t .bus .period) (c : ℕ) where
   -- the offset is that of the clock
   abbrev pub OnClock : State → Type 0
-  OnClock s = s .at ≡ (c + s .count) % t .bus .period
+  OnClock s = finalOffset t s ≡ (c + s .count) % t .bus .period
 
   tick-on : (s : State) → OnClock s → OnClock (tick (placesOf t) s)
-  unfolding tick
+  unfolding tick withLines
   tick-on s h =
-      ap (λ (o : ℕ). (o + 1) % t .bus .period) h ∙ mod-add-mod (c + s .count) (t .bus .period) 1
+      lines-forgotten (t .bus .period) (t .lines) pos .same-goes (s .at)
+      ∙ ap (λ (o : ℕ). (o + 1) % t .bus .period) h ∙ mod-add-mod (c + s .count) (t .bus .period) 1
       ∙ ap (λ (n : ℕ). n % t .bus .period) (omega arith)
+
+  -- a fetch takes no cycle
+  fetched-on : (x : ℕ) (s : State) → OnClock s → OnClock (fetched (placesOf t) x s)
+  unfolding withLines
+  fetched-on x s h = lines-forgotten (t .bus .period) (t .lines) pos .same-fetch x (s .at) ∙ h
 
   pass-on : (d : ℕ) (s : State) → OnClock s → OnClock (pass (placesOf t) d s)
   unfolding pass
@@ -33,6 +40,8 @@ module _ (t : Task) (c : ℕ) where
     does-on {n} {s} (passes lo hi d x a b e) h = rw e (pass-on d s h)
     does-on {n} {s} (may-pass lo hi d x a b e) h = rw e (pass-on d s h)
     does-on (accesses kind lo hi d x a b r) h = access-on r h
+    does-on (first-time {m = m} x lo hi hit d y u a b r e) h = rw e (fetched-on x m (access-on r h))
+    does-on {n} {s} (later-time x lo hi hit y u e) h = rw e (pass-on hit s h)
     does-on (in-order ns x r) h = all-on r h
     does-on (one-of ns m x a r) h = does-on r h
     does-on (repeats least greatest body k x a b r) h = times-on r h

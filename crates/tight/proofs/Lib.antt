@@ -3,5 +3,6 @@ pub mod Rooms
 pub mod Parts
 pub mod Children
 pub mod Descents
-mod Watching
-mod Loops
+pub mod Leaves
+pub mod Watching
+pub mod Loops

@@ -6,7 +6,6 @@ use lib.ListN.{length}
 use native.Mathlib.Omega.{arith}
 use native.Mathlib.Nat.{mul-le-mul-left, mul-le-mul-right, add-mul, add-zero, sub-zero, zero-mul, sub-self, not-suc-le-zero, le-refl}
 use Prim.Native.Nat.{ℕ, zero, suc, _+_, _-_, _*_, _/_, _≤_, _<_}
-use Rattle.runs.specs.Slots.{periodOf}
 use Rattle.runs.specs.Nodes.{Tree, visits}
 use Rattle.runs.specs.Carried.{iterate}
 use Rattle.runs.specs.Figures.{Time, longer}
@@ -15,18 +14,16 @@ use Rattle.runs.proofs.Cases.{split}
 use Rattle.runs.proofs.Joins.{longer-joins}
 use Rattle.runs.proofs.Loops.{unrolled-none, unrolled-one, unrolled-both}
 use Rattle.runs.proofs.Shifted.{shifted-zero, multiple, cycles-skip}
-use Rattle.bus.specs.declared.Bus.{Bus}
-use Rattle.bus.specs.Waits.{slotsOf}
 use Rattle.image.specs.Nodes.{treeAt}
 use Rattle.image.specs.Walks.{Walkable}
 use Rattle.image.specs.declared.Task.{Task}
 use Rattle.image.specs.declared.nodes.Loop.{Loop}
 use Rattle.image.proofs.Walks.{valid-at}
-use Rattle.times.specs.Arrays.{tableOf, Stepped, Shifted, Fits}
+use Rattle.times.specs.Arrays.{tableOf, Shifted, Fits}
 use Rattle.cycles.specs.Cycles.{Jumps}
 use Rattle.cycles.specs.declared.Watch.{Watch}
 use Rattle.cycles.proofs.Watching.{goes-none, goes-one, goes-both, whole, skips-small, skips-watches, skips-ends}
-use Rattle.tight.specs.Steps.{table, after, Roomy, Walked, Ready, ReadyRepeat, ReadyLoop, BegunAt, TurnedAt, UnrolledAt, WatchedBy, SkippedBy, Unrolls}
+use Rattle.tight.specs.Steps.{sizeOf, table, after, Stepped, Roomy, Walked, Ready, ReadyRepeat, ReadyLoop, BegunAt, TurnedAt, UnrolledAt, WatchedBy, SkippedBy, KeptBy, Unrolls}
 use Rattle.tight.proofs.Rooms.{room-less, room-fits, room-times}
 use Rattle.tight.proofs.Parts.{as-loop}
 use Rattle.tight.proofs.Watching.{commutes}
@@ -42,7 +39,7 @@ module _ (s : List ℕ) (k : Task) (places : List ℕ) (body left : ℕ) (w : Wa
     walkable = r .walkable;
     low = r .low;
     size = r .size;
-    room = room-less (k .bus) _ _ (table (k .bus) cur) (omega arith) (rw e at (r .room));
+    room = room-less k _ _ (table k cur) (omega arith) (rw e at (r .room));
   }
 
   pub half-ready : (h : ℕ) → h ≤ left → ReadyLoop s k places body h w cur out old
@@ -52,75 +49,80 @@ module _ (s : List ℕ) (k : Task) (places : List ℕ) (body left : ℕ) (w : Wa
     few = omega (arith, r .few);
     size = r .size;
     size-out = r .size-out;
-    room = room-less (k .bus) _ _ (table (k .bus) cur) (mul-le-mul-left 65535 (mul-le-mul-right (visits x) l)) (r .room);
+    size-old = r .size-old;
+    room = room-less k _ _ (table k cur) (mul-le-mul-left 65535 (mul-le-mul-right (visits x) l)) (r .room);
     small = r .small;
     watches = r .watches;
   }
 
   -- room for n iterations after m others
-  pub later-room : (m n : ℕ) → m + n ≤ left → (T : List Time) → T ≡ iterate (after (k .bus) x) m (table (k .bus) cur)
-      → Roomy (k .bus) (65535 * (n * visits x)) T
+  pub later-room : (m n : ℕ) → m + n ≤ left → (T : List Time) → T ≡ iterate (after k x) m (table k cur)
+      → Roomy k (65535 * (n * visits x)) T
   later-room m n l T e =
       rw e
-      (room-times s k places (r .walkable) x (valid-at s k places (r .walkable) body (r .low)) m _ (table (k .bus) cur)
-      (room-less (k .bus) _ _ (table (k .bus) cur) fits (r .room)))
+      (room-times s k places (r .walkable) x (valid-at s k places (r .walkable) body (r .low)) m _ (table k cur)
+      (room-less k _ _ (table k cur) fits (r .room)))
     where
       fits : 65535 * (m * visits x) + 65535 * (n * visits x) ≤ 65535 * (left * visits x)
       fits =
           let f : (m + n) * visits x ≡ m * visits x + n * visits x = add-mul m n (visits x) in
           omega (arith, f, mul-le-mul-right (visits x) l)
 
-  pub other-ready : (least h : ℕ) → h ≤ left → (a : Watch) (cur' out' old' : List ℕ) → Unrolls (k .bus) x least h w cur out a cur' out' old'
+  pub other-ready : (least h : ℕ) → h ≤ left → (a : Watch) (cur' out' old' : List ℕ) → Unrolls k x least h w cur out old a cur' out' old'
       → ReadyLoop s k places body (left - h) a cur' out' old'
   other-ready least h l a cur' out' old' u = record {
     walkable = r .walkable;
     low = r .low;
     few = omega (arith, r .few, u .goes .most);
-    size = u .size;
-    size-out = u .size-out;
+    size = omega (arith, u .size, r .size);
+    size-out = omega (arith, u .size-out, r .size-out);
+    size-old = omega (arith, u .size-old, r .size-old);
     room = later-room (a .done - w .done) (left - h) (omega (arith, u .goes .most, u .goes .more)) _ (u .unrolled .cur);
     small = u .goes .small;
     watches = u .watches;
   }
 
   -- no iteration: none is left, or a cycle is known
-  pub none-unrolls : (least : ℕ) → (w .cycle ≡ 0 → left ≡ 0) → Unrolls (k .bus) x least left w cur out w cur out old
+  pub none-unrolls : (least : ℕ) → (w .cycle ≡ 0 → left ≡ 0) → Unrolls k x least left w cur out old w cur out old
   none-unrolls least stop = record {
     goes = goes-none left w (r .small) stop;
-    size = r .size;
-    size-out = r .size-out;
-    unrolled = rw (sub-self (w .done)) (unrolled-none none longer longer-joins (periodOf (slotsOf (k .bus))) (after (k .bus) x) least (w .done) _ _);
+    size = refl;
+    size-out = refl;
+    size-old = refl;
+    unrolled = rw (sub-self (w .done)) (unrolled-none none longer longer-joins (sizeOf k) (after k x) least (w .done) _ _);
     watches = r .watches;
   }
 
   -- one
-  pub one-unrolls : (least : ℕ) → left ≡ 1 → w .cycle ≡ 0 → (cur' out' old' : List ℕ) (a : Watch) → Walked (k .bus) x cur cur'
-      → length out' ≡ 256 → TurnedAt (k .bus) least (w .done) out cur' out' → (P : ℕ) → P ≡ periodOf (slotsOf (k .bus)) → WatchedBy P cur' old w old' a
-      → Unrolls (k .bus) x least left w cur out a cur' out' old'
+  pub one-unrolls : (least : ℕ) → left ≡ 1 → w .cycle ≡ 0 → (cur' out' old' : List ℕ) (a : Watch) → Walked k x cur cur'
+      → length out' ≡ length out → TurnedAt k least (w .done) out cur' out' → (P : ℕ) → P ≡ sizeOf k → WatchedBy P cur' old w old' a
+      → Unrolls k x least left w cur out old a cur' out' old'
   one-unrolls least e none-yet cur' out' old' a step size turned P is seen =
       let one : a .done - w .done ≡ 1 = omega (arith, seen .counts .done) in
       record {
         goes = goes-one left w a e none-yet (seen .counts);
         size = step .size;
         size-out = size;
-        unrolled = rw one (unrolled-one none longer longer-joins (periodOf (slotsOf (k .bus))) (after (k .bus) x) least (w .done) _ _ _ _ _ (step .steps) turned);
-        watches = seen .watches (k .bus) x (sym is) cur (r .watches) (step .steps);
+        size-old = seen .size;
+        unrolled = rw one (unrolled-one none longer longer-joins (sizeOf k) (after k x) least (w .done) _ _ _ _ _ (step .steps) turned);
+        watches = seen .watches k x (sym is) cur (r .watches) (step .steps);
       }
 
 -- two parts
-pub both-unroll : (b : Bus) (x : Tree) (least left h : ℕ) → h ≤ left → (w a q : Watch) (cur out cur₁ out₁ old₁ cur' out' old' : List ℕ)
-    → Unrolls b x least h w cur out a cur₁ out₁ old₁ → Unrolls b x least (left - h) a cur₁ out₁ q cur' out' old'
-    → Unrolls b x least left w cur out q cur' out' old'
-both-unroll b x least left h l w a q cur out cur₁ out₁ old₁ cur' out' old' u v =
+pub both-unroll : (k : Task) (x : Tree) (least left h : ℕ) → h ≤ left → (w a q : Watch) (cur out old cur₁ out₁ old₁ cur' out' old' : List ℕ)
+    → Unrolls k x least h w cur out old a cur₁ out₁ old₁ → Unrolls k x least (left - h) a cur₁ out₁ old₁ q cur' out' old'
+    → Unrolls k x least left w cur out old q cur' out' old'
+both-unroll k x least left h l w a q cur out old cur₁ out₁ old₁ cur' out' old' u v =
     let all : (a .done - w .done) + (q .done - a .done) ≡ q .done - w .done = omega (arith, u .goes .more, v .goes .more) in
     let mid : w .done + (a .done - w .done) ≡ a .done = omega (arith, u .goes .more) in
     record {
       goes = goes-both left h l w a q (u .goes) (v .goes);
-      size = v .size;
-      size-out = v .size-out;
+      size = v .size ∙ u .size;
+      size-out = v .size-out ∙ u .size-out;
+      size-old = v .size-old ∙ u .size-old;
       unrolled =
           rw (← all)
-          (unrolled-both none longer longer-joins (periodOf (slotsOf b)) (after b x) least (w .done) (a .done - w .done) (q .done - a .done) _ _ _ _ _ _
+          (unrolled-both none longer longer-joins (sizeOf k) (after k x) least (w .done) (a .done - w .done) (q .done - a .done) _ _ _ _ _ _
           (u .unrolled) (rw mid (v .unrolled)));
       watches = v .watches;
     }
@@ -131,50 +133,56 @@ module _ (s : List ℕ) (k : Task) (places : List ℕ) (node : ℕ) (l : Loop) (
   abbrev y : Tree
   y = treeAt s (l .body)
 
-  abbrev fresh : Watch
-  fresh = record { done = 0; gap = 0; span = 1; cycle = 0; gain = 0 }
+  abbrev fresh : ℕ → Watch
+  fresh span = record { done = 0; gap = 0; span = span; cycle = 0; gain = 0 }
 
-  pub begun-ready : (out : List ℕ) → length out ≡ 256 → ReadyLoop s k places (l .body) (l .greatest) fresh t out t
+  pub begun-ready : (out₀ out old old' : List ℕ) (span : ℕ) → sizeOf k ≤ length out₀ → length out ≡ length out₀ → sizeOf k ≤ length old → (P : ℕ) → P ≡ sizeOf k
+      → KeptBy P t old old' span → ReadyLoop s k places (l .body) (l .greatest) (fresh span) t out old'
   unfolding iterate
-  begun-ready out size = record {
+  begun-ready out₀ out old old' span long size size-old P is b = record {
     walkable = r .walkable;
     low = omega (arith, r .low, r .below);
     few = omega (arith, r .few);
     size = r .size;
-    size-out = size;
+    size-out = omega arith;
+    size-old = omega (arith, b .size);
     room = r .room;
-    small = record { gap-most = omega arith; span-most = omega arith; cycle-most = omega arith; gain-most = omega arith };
-    watches = record { past = λ m. refl; cyclic = λ m. absurd (not-suc-le-zero m) };
+    small = record { gap-most = omega arith; span-most = omega (arith, b .few); cycle-most = omega arith; gain-most = omega arith };
+    watches = record { past = λ m. sym (rw is at (b .kept m)); cyclic = λ m. absurd (not-suc-le-zero m) };
   }
 
-  module _ (out : List ℕ) (size : length out ≡ 256) (a : Watch) (cur₁ out₁ old₁ : List ℕ)
-      (u : Unrolls (k .bus) y (l .least) (l .greatest) fresh t out a cur₁ out₁ old₁) where
+  module _ (out₀ out old old' : List ℕ) (span : ℕ) (long : sizeOf k ≤ length out₀) (size : length out ≡ length out₀) (size-old : sizeOf k ≤ length old)
+      (P : ℕ) (is : P ≡ sizeOf k) (b : KeptBy P t old old' span) (a : Watch) (cur₁ out₁ old₁ : List ℕ) (u : Unrolls k y (l .least) (l .greatest) (fresh span) t out old' a cur₁ out₁ old₁) where
     pub seen-few : a .done ≤ l .greatest
     seen-few = omega (arith, u .goes .most)
 
     pub seen-ready : ReadyLoop s k places (l .body) (l .greatest - a .done) a cur₁ out₁ old₁
     seen-ready =
-        let b = begun-ready out size in
+        let g = begun-ready out₀ out old old' span long size size-old P is b in
         record {
           walkable = r .walkable;
-          low = b .low;
+          low = g .low;
           few = omega (arith, r .few, u .goes .most);
-          size = u .size;
-          size-out = u .size-out;
+          size = omega (arith, u .size, g .size);
+          size-out = omega (arith, u .size-out, g .size-out);
+          size-old = omega (arith, u .size-old, g .size-old);
           room =
-              later-room s k places (l .body) (l .greatest) fresh t out t b (a .done - 0) (l .greatest - a .done) (omega (arith, u .goes .most)) _ (u .unrolled .cur);
+              later-room s k places (l .body) (l .greatest) (fresh span) t out old' g (a .done - 0) (l .greatest - a .done) (omega (arith, u .goes .most)) _ (u .unrolled .cur);
           small = u .goes .small;
           watches = u .watches;
         }
 
-    pub seen-fits : Fits (periodOf (slotsOf (k .bus))) cur₁
-    seen-fits = room-fits (k .bus) _ cur₁ (seen-ready .room)
+    pub seen-fits : Fits P cur₁
+    seen-fits = rw is (room-fits k _ cur₁ (seen-ready .room))
 
-    module _ (P : ℕ) (is : P ≡ periodOf (slotsOf (k .bus))) (q : Watch) (cur₂ : List ℕ) (e : SkippedBy P (l .greatest - a .done) a cur₁ cur₂ q) where
+    pub seen-long : P ≤ length cur₁
+    seen-long = omega (arith, seen-ready .size)
+
+    module _ (q : Watch) (cur₂ : List ℕ) (e : SkippedBy P (l .greatest - a .done) a cur₁ cur₂ q) where
       abbrev n : ℕ
       n = e .skips .0
 
-      by-gain : table (k .bus) cur₂ ≡ shifted (n * a .gain) (table (k .bus) cur₁)
+      by-gain : table k cur₂ ≡ shifted (n * a .gain) (table k cur₁)
       by-gain = rw is at (e .skips .2)
 
       fits : n * a .cycle ≤ l .greatest - a .done
@@ -184,49 +192,55 @@ module _ (s : List ℕ) (k : Task) (places : List ℕ) (node : ℕ) (l : Loop) (
       skip-few = omega (arith, fits, e .skips .1 .done, u .goes .most)
 
       -- the table behind the skipped cycles
-      skip-cur : table (k .bus) cur₂ ≡ iterate (after (k .bus) y) (n * a .cycle) (table (k .bus) cur₁)
+      skip-cur : table k cur₂ ≡ iterate (after k y) (n * a .cycle) (table k cur₁)
       unfolding iterate
       skip-cur =
           split 1 n
-          (λ m. by-gain ∙ sym (multiple (after (k .bus) y) (commutes (k .bus) y) (a .cycle) (a .gain) _ (u .watches .cyclic (e .skips .1 .jumps .room m .0)) n))
+          (λ m. by-gain ∙ sym (multiple (after k y) (commutes k y) (a .cycle) (a .gain) _ (u .watches .cyclic (e .skips .1 .jumps .room m .0)) n))
           (λ m. let z : n ≡ 0 = omega arith in
-          by-gain ∙ rw (z, zero-mul (a .gain), zero-mul (a .cycle)) (shifted-zero (table (k .bus) cur₁)))
+          by-gain ∙ rw (z, zero-mul (a .gain), zero-mul (a .cycle)) (shifted-zero (table k cur₁)))
 
       pub rest-ready : ReadyLoop s k places (l .body) (l .greatest - q .done) q cur₂ out₁ old₁
       rest-ready = record {
         walkable = r .walkable;
         low = seen-ready .low;
         few = omega (arith, r .few, skip-few);
-        size = e .size;
-        size-out = u .size-out;
+        size = omega (arith, e .size, seen-ready .size);
+        size-out = seen-ready .size-out;
+        size-old = seen-ready .size-old;
         room =
             later-room s k places (l .body) (l .greatest - a .done) a cur₁ out₁ old₁ seen-ready (n * a .cycle) (l .greatest - q .done)
             (omega (arith, fits, e .skips .1 .done)) _ skip-cur;
         small = skips-small _ a n q (e .skips .1);
-        watches = skips-watches (after (k .bus) y) shifted _ a n q (e .skips .1) _ _;
+        watches = skips-watches (after k y) shifted _ a n q (e .skips .1) _ _;
       }
 
       -- unrolling the rest is unrolling all that was left
-      skip-unrolled : (cur' out' : List ℕ) → UnrolledAt (k .bus) y (l .least) (a .done + n * a .cycle) (l .greatest - a .done - n * a .cycle) cur₂ out₁ cur' out'
-          → UnrolledAt (k .bus) y (l .least) (a .done) (l .greatest - a .done) cur₁ out₁ cur' out'
+      skip-unrolled : (cur' out' : List ℕ) → UnrolledAt k y (l .least) (a .done + n * a .cycle) (l .greatest - a .done - n * a .cycle) cur₂ out₁ cur' out'
+          → UnrolledAt k y (l .least) (a .done) (l .greatest - a .done) cur₁ out₁ cur' out'
       skip-unrolled cur' out' v =
           split 1 n
           (λ m. let j = e .skips .1 .jumps .room m in
-          cycles-skip (after (k .bus) y) (commutes (k .bus) y) (a .cycle) (a .gain) _ (u .watches .cyclic (j .0)) (j .0) (periodOf (slotsOf (k .bus)))
+          cycles-skip (after k y) (commutes k y) (a .cycle) (a .gain) _ (u .watches .cyclic (j .0)) (j .0) (sizeOf k)
           (l .least) (a .done) (l .greatest - a .done) n (j .1) _ _ _ _ (by-gain) v)
           (λ m. let z : n ≡ 0 = omega arith in
-          let same : table (k .bus) cur₂ ≡ table (k .bus) cur₁ =
-          by-gain ∙ rw (z, zero-mul (a .gain)) (shifted-zero (table (k .bus) cur₁)) in
+          let same : table k cur₂ ≡ table k cur₁ =
+          by-gain ∙ rw (z, zero-mul (a .gain)) (shifted-zero (table k cur₁)) in
           rw same at (rw (z, zero-mul (a .cycle), add-zero, sub-zero) at v))
 
-      counted : (cur' out' : List ℕ) (d d' m m' : ℕ) → d ≡ d' → m ≡ m' → UnrolledAt (k .bus) y (l .least) d m cur₂ out₁ cur' out'
-          → UnrolledAt (k .bus) y (l .least) d' m' cur₂ out₁ cur' out'
+      counted : (cur' out' : List ℕ) (d d' m m' : ℕ) → d ≡ d' → m ≡ m' → UnrolledAt k y (l .least) d m cur₂ out₁ cur' out'
+          → UnrolledAt k y (l .least) d' m' cur₂ out₁ cur' out'
       counted cur' out' d d' m m' h g v = rw (h, g) at v
 
-      pub repeat-steps : (z : Watch) (cur' out' old' : List ℕ) → BegunAt (k .bus) (l .least) t out
-          → Unrolls (k .bus) y (l .least) (l .greatest - q .done) q cur₂ out₁ z cur' out' old'
-          → Walked (k .bus) (Tree.loop (l .least) (l .greatest) y) t out'
-      repeat-steps z cur' out' old' g v =
+      -- the arrays are long enough to be copied
+      pub ends-long : (z : Watch) (cur' out' old₂ : List ℕ) → Unrolls k y (l .least) (l .greatest - q .done) q cur₂ out₁ old₁ z cur' out' old₂
+          → (P ≤ length cur') × (P ≤ length out')
+      ends-long z cur' out' old₂ v = (omega (arith, v .size, rest-ready .size), omega (arith, v .size-out, rest-ready .size-out))
+
+      pub repeat-steps : (z : Watch) (cur' out' old₂ t' : List ℕ) → BegunAt k (l .least) t out
+          → Unrolls k y (l .least) (l .greatest - q .done) q cur₂ out₁ old₁ z cur' out' old₂
+          → length t' ≡ length cur' → tableOf P t' ≡ tableOf P out' → Walked k (Tree.loop (l .least) (l .greatest) y) t t'
+      repeat-steps z cur' out' old₂ t' g v same copied =
           let ends : z .done ≡ q .done + (l .greatest - q .done) = skips-ends _ a n q (e .skips .1) _ z (v .goes) in
           let left : z .done - q .done ≡ l .greatest - a .done - n * a .cycle = omega (arith, ends, e .skips .1 .done, skip-few) in
           let rest = skip-unrolled cur' out' (counted cur' out' (q .done) _ (z .done - q .done) _ (e .skips .1 .done) left (v .unrolled)) in
@@ -234,10 +248,11 @@ module _ (s : List ℕ) (k : Task) (places : List ℕ) (node : ℕ) (l : Loop) (
           let whole-count : (a .done - 0) + (l .greatest - a .done) ≡ l .greatest = omega (arith, u .goes .most) in
           let from : 0 + (a .done - 0) ≡ a .done = omega arith in
           record {
-            size = v .size-out;
+            size = same ∙ v .size ∙ e .size ∙ u .size;
             steps =
-                as-loop (k .bus) (Tree.loop (l .least) (l .greatest) y) t y (l .least) (l .greatest) out cur' out' refl g
+                rw is at copied
+                ∙ as-loop k (Tree.loop (l .least) (l .greatest) y) t y (l .least) (l .greatest) out cur' out' refl g
                 (rw (← whole-count)
-                (unrolled-both none longer longer-joins (periodOf (slotsOf (k .bus))) (after (k .bus) y) (l .least) 0 (a .done - 0) (l .greatest - a .done)
+                (unrolled-both none longer longer-joins (sizeOf k) (after k y) (l .least) 0 (a .done - 0) (l .greatest - a .done)
                 _ _ _ _ _ _ first (rw from rest)));
           }

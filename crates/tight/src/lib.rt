@@ -1,23 +1,22 @@
-// tight: the walk that carries each offset's longest time from node to node (document 01, "Both figures": tight).
+// tight: the walk that carries each place's longest time from node to node (document 01, "Both figures": tight; document 02, W9: a place is an
+// offset with the set of lines that are fetched).
 //
 // Promise: after `walk` the lent array holds the table of longest times that `times` of crates/runs/specs/Figures.antt gives for the node.
-// Definitions: specs/Steps.antt, over crates/runs/specs and crates/times/specs/Arrays.antt.
+// Definitions: specs/Steps.antt, over crates/runs/specs, crates/times/specs/Arrays.antt and crates/lined/specs/Lined.antt.
 // The node number falls at each descent; where a loop is unrolled, the pair of node number and iterations left falls: the iterations
-// are taken in two halves, so the stack grows with the logarithm of the count. Arrays are lent down the walk, not copied.
+// are taken in two halves, so the stack grows with the logarithm of the count. Arrays are lent down the walk, not copied; those that a join or
+// a loop keeps have 256 places, and 1,024 only where the image has lines.
 // A loop whose times have become periodic (after `cycle` iterations every time is `gain` cycles later) is not walked to its end: the
 // unroller stops there, whole cycles are skipped by one addition, and the rest is walked.
 ghost use mathlib.Core.Path.{_≡_};
 ghost use lib.ListN.{length};
-ghost use Prim.Native.Nat.{_+_, _≤_};
+ghost use Prim.Native.Nat.{_+_, _≤_, _<_};
 ghost use Rattle.image.specs.Nodes.{treeAt, childTrees, kindMeant};
-ghost use Rattle.times.specs.Arrays.{PlainReady, BusReady, Fits};
+ghost use Rattle.image.specs.declared.Task.{Task};
+ghost use Rattle.times.specs.Arrays.{Fits};
 ghost use Rattle.runs.specs.Nodes.{Tree};
-ghost use Rattle.runs.specs.Slots.{periodOf};
-ghost use Rattle.bus.specs.Waits.{slotsOf};
-ghost use Rattle.bus.specs.declared.Bus.{Bus};
 ghost use Rattle.cycles.specs.Cycles.{Small};
-ghost use Rattle.tight.specs.Steps.{Walked, Ready, ReadyAll, ReadyRepeat, ReadyLoop, BegunAt, TurnedAt, WatchedBy, SkippedBy, Unrolls, Branched, afterAll, table};
-use bus::Bus;
+ghost use Rattle.tight.specs.Steps.{sizeOf, table, afterAll, Walked, Sized, PlainReady, BusReady, OnceReady, Ready, ReadyAll, ReadyRepeat, Empty, ReadyLoop, BegunAt, TurnedAt, WatchedBy, SkippedBy, KeptBy, Unrolls, Branched};
 use cycles::Watch;
 use image::Task;
 use image::nodes::BusBlock;
@@ -25,77 +24,103 @@ use image::nodes::Children;
 use image::nodes::Kind;
 use image::nodes::Loop;
 use image::nodes::Node;
+use image::nodes::Once;
 use image::nodes::Plain;
+use lined::Step;
+
+// How many places a table has.
+fn size(k: Task) -> usize
+    requires { ⌜ Sized k ⌝ }
+    ensures { λ r. ⌜ r ≡ sizeOf k ⌝ }
+{
+    k.sets * bus::period(k.bus)
+}
 
 // The step of a plain block.
-fn plain_block(b: Bus, p: Plain, t: &mut [u64; 256])
-    requires { ⌜ PlainReady b (p .lowest) (p .highest) (now t) ⌝ }
-    ensures { λ _. ⌜ Walked b (Tree.plain (p .lowest) (p .highest)) (now (t .entry)) (now (t .exit)) ⌝ }
+fn plain_block(k: Task, p: Plain, t: &mut [u64])
+    requires { ⌜ PlainReady k (p .lowest) (p .highest) (now t) ⌝ }
+    ensures { λ _. ⌜ Walked k (Tree.plain (p .lowest) (p .highest)) (now (t .entry)) (now (t .exit)) ⌝ }
 {
-    let next = times::plain_step(b, p.lowest, p.highest, *t);
-    *t = next;
+    lined::each_row(k.bus, Step::Plain, p.lowest, p.highest, k.sets, t);
 }
 
 // The step of a bus block, by its kind.
-fn bus_block(b: Bus, x: BusBlock, t: &mut [u64; 256])
-    requires { ⌜ BusReady b (x .lowest) (x .highest) (now t) ⌝ }
-    ensures { λ _. ⌜ Walked b (Tree.bus (kindMeant (x .kind)) (x .lowest) (x .highest)) (now (t .entry)) (now (t .exit)) ⌝ }
+fn bus_block(k: Task, x: BusBlock, t: &mut [u64])
+    requires { ⌜ BusReady k (x .lowest) (x .highest) (now t) ⌝ }
+    ensures { λ _. ⌜ Walked k (Tree.bus (kindMeant (x .kind)) (x .lowest) (x .highest)) (now (t .entry)) (now (t .exit)) ⌝ }
 {
     let kind = x.kind;
     match kind {
-        Kind::May => {
-            let next = times::may_step(b, x.lowest, x.highest, *t);
-            *t = next;
-        }
-        Kind::Always => {
-            let next = times::always_step(b, x.lowest, x.highest, *t);
-            *t = next;
-        }
+        Kind::May => lined::each_row(k.bus, Step::May, x.lowest, x.highest, k.sets, t),
+        Kind::Always => lined::each_row(k.bus, Step::Always, x.lowest, x.highest, k.sets, t),
     }
+}
+
+// The step of a block fetched once.
+fn once_block(k: Task, x: Once, t: &mut [u64])
+    requires { ⌜ OnceReady k (x .line) (x .lowest) (x .highest) (x .hit) (now t) ⌝ }
+    ensures { λ _. ⌜ Walked k (Tree.once (x .line) (x .lowest) (x .highest) (x .hit)) (now (t .entry)) (now (t .exit)) ⌝ }
+{
+    let weight = image::fetched::power(x.line);
+    lined::once(k.bus, x.lowest, x.highest, x.hit, weight, k.sets, t);
 }
 
 // The exits before the first iteration: the entry's own where 0 is a permitted count, and else none.
-fn before_first(least: usize, t: &[u64; 256]) -> [u64; 256]
-    ensures { λ r. ⌜ (length r ≡ 256) × ((b : Bus) → periodOf (slotsOf b) ≤ 256 → BegunAt b least (now (t .entry)) r) ⌝ }
+fn before_first(n: usize, least: usize, t: &[u64], out: &mut [u64])
+    requires { ⌜ (n ≤ length (now t)) × Empty n (now out) ⌝ }
+    ensures { λ _. ⌜ (length (now (out .exit)) ≡ length (now (out .entry))) × ((k : Task) → sizeOf k ≡ n → BegunAt k least (now (t .entry)) (now (out .exit))) ⌝ }
 {
-    let mut exits = [18446744073709551615u64; 256];
     if least == 0 {
-        times::join(&mut exits, t);
+        times::copy(out, t, n);
     }
-    exits
+}
+
+// What is kept before the first iteration, and for how many: the entry, for one, but where at most one iteration is to come nothing is kept.
+fn kept(n: usize, greatest: usize, t: &[u64], old: &mut [u64]) -> usize
+    requires { ⌜ (n ≤ length (now t)) × (n ≤ length (now old)) ⌝ }
+    ensures { λ r. ⌜ KeptBy n (now (t .entry)) (now (old .entry)) (now (old .exit)) r ⌝ }
+{
+    if greatest <= 1 {
+        return 0;
+    }
+    times::copy(old, t, n);
+    1
 }
 
 // The exits after one more iteration, which left the times `next`.
-fn joined(least: usize, done: usize, next: &[u64; 256], out: &mut [u64; 256])
-    requires { ⌜ (done ≤ 10000) × (length (now out) ≡ 256) ⌝ }
-    ensures { λ _. ⌜ (length (now (out .exit)) ≡ 256) × ((b : Bus) → periodOf (slotsOf b) ≤ 256 → TurnedAt b least done (now (out .entry)) (now (next .entry)) (now (out .exit))) ⌝ }
+fn joined(n: usize, least: usize, done: usize, next: &[u64], out: &mut [u64])
+    requires { ⌜ (done ≤ 10000) × (n ≤ length (now next)) × (n ≤ length (now out)) ⌝ }
+    ensures { λ _. ⌜ (length (now (out .exit)) ≡ length (now (out .entry))) × ((k : Task) → sizeOf k ≡ n → TurnedAt k least done (now (out .entry)) (now (next .entry)) (now (out .exit))) ⌝ }
 {
     if least <= done + 1 {
-        times::join(out, next);
+        times::join(out, next, n);
     }
 }
 
 // What is seen after one more iteration, which left the times `cur`: a cycle where these are the kept ones, all later by one gain.
-fn watched(period: usize, cur: &[u64; 256], old: &mut [u64; 256], w: Watch) -> Watch
-    requires { ⌜ (period ≤ 256) × (w .done ≤ 9999) × Small w ⌝ }
-    ensures { λ r. ⌜ WatchedBy period (now (cur .entry)) (now (old .entry)) w (now (old .exit)) r ⌝ }
+fn watched(n: usize, cur: &[u64], old: &mut [u64], w: Watch) -> Watch
+    requires { ⌜ (n ≤ length (now cur)) × (n ≤ length (now old)) × (w .done ≤ 9999) × Small w ⌝ }
+    ensures { λ r. ⌜ WatchedBy n (now (cur .entry)) (now (old .entry)) w (now (old .exit)) r ⌝ }
 {
-    let gain = times::rise(old, cur, period);
-    let same = times::is_later(old, cur, period, gain);
+    if w.span == 0 {
+        return cycles::seen(w, false, 0);
+    }
+    let gain = times::rise(old, cur, n);
+    let same = times::is_later(old, cur, n, gain);
     let r = cycles::seen(w, same, gain);
     if r.gap == 0 {
-        *old = *cur;
+        times::copy(old, cur, n);
     }
     r
 }
 
 // Of the `left` iterations to come whole cycles are skipped; what is left then is only walked.
-fn skipped(period: usize, left: usize, w: Watch, cur: &mut [u64; 256]) -> Watch
-    requires { ⌜ (period ≤ 256) × (w .done + left ≤ 10000) × Small w × (length (now cur) ≡ 256) × Fits period (now cur) ⌝ }
-    ensures { λ r. ⌜ SkippedBy period left w (now (cur .entry)) (now (cur .exit)) r ⌝ }
+fn skipped(size: usize, left: usize, w: Watch, cur: &mut [u64]) -> Watch
+    requires { ⌜ (size ≤ length (now cur)) × (w .done + left ≤ 10000) × Small w × Fits size (now cur) ⌝ }
+    ensures { λ r. ⌜ SkippedBy size left w (now (cur .entry)) (now (cur .exit)) r ⌝ }
 {
     let n = cycles::jumps(w.cycle, left);
-    times::all_later(cur, period, n * w.gain);
+    times::all_later(cur, size, n * w.gain);
     Watch {
         done: w.done + n * w.cycle,
         gap: 0,
@@ -106,16 +131,16 @@ fn skipped(period: usize, left: usize, w: Watch, cur: &mut [u64; 256]) -> Watch
 }
 
 // The times after a node.
-pub fn walk(image: &[u8], places: &[usize; 256], k: Task, node: usize, t: &mut [u64; 256])
+pub fn walk(image: &[u8], places: &[usize; 256], k: Task, node: usize, t: &mut [u64])
     requires { ⌜ Ready (now image) k (now places) node (now t) ⌝ }
-    ensures { λ _. ⌜ Walked (k .bus) (treeAt (now (image .entry)) node) (now (t .entry)) (now (t .exit)) ⌝ }
+    ensures { λ _. ⌜ Walked k (treeAt (now (image .entry)) node) (now (t .entry)) (now (t .exit)) ⌝ }
 {
     let at = places[node];
     let n = image::nodes::node_at(image, at);
-    let b = k.bus;
     match n {
-        Node::Plain(p) => plain_block(b, p, t),
-        Node::Bus(x) => bus_block(b, x, t),
+        Node::Plain(p) => plain_block(k, p, t),
+        Node::Bus(x) => bus_block(k, x, t),
+        Node::Once(x) => once_block(k, x, t),
         Node::Sequence(c) => sequence(image, places, k, node, c, t),
         Node::Branch(c) => branch(image, places, k, node, c, t),
         Node::Loop(l) => repeat(image, places, k, node, l, t),
@@ -123,16 +148,9 @@ pub fn walk(image: &[u8], places: &[usize; 256], k: Task, node: usize, t: &mut [
 }
 
 // The times after the children in order.
-fn sequence(
-    image: &[u8],
-    places: &[usize; 256],
-    k: Task,
-    node: usize,
-    c: Children,
-    t: &mut [u64; 256],
-)
+fn sequence(image: &[u8], places: &[usize; 256], k: Task, node: usize, c: Children, t: &mut [u64])
     requires { ⌜ ReadyAll (now image) k (now places) node (c .place) (c .count) (now t) ⌝ }
-    ensures { λ _. ⌜ (length (now (t .exit)) ≡ 256) × (table (k .bus) (now (t .exit)) ≡ afterAll (k .bus) (childTrees (now (image .entry)) (c .place) (c .count)) (table (k .bus) (now (t .entry)))) ⌝ }
+    ensures { λ _. ⌜ (length (now (t .exit)) ≡ length (now (t .entry))) × (table k (now (t .exit)) ≡ afterAll k (childTrees (now (image .entry)) (c .place) (c .count)) (table k (now (t .entry)))) ⌝ }
 {
     let place = c.place;
     let count = c.count;
@@ -145,42 +163,109 @@ fn sequence(
 }
 
 // The times after any one of the children, joined.
-fn branch(
+fn branch(image: &[u8], places: &[usize; 256], k: Task, node: usize, c: Children, t: &mut [u64])
+    requires { ⌜ ReadyAll (now image) k (now places) node (c .place) (c .count) (now t) ⌝ }
+    ensures { λ _. ⌜ (length (now (t .exit)) ≡ length (now (t .entry))) × Branched k (childTrees (now (image .entry)) (c .place) (c .count)) (now (t .entry)) (now (t .exit)) ⌝ }
+{
+    if 1 < k.sets {
+        wide_branch(image, places, k, node, c, t);
+        return;
+    }
+    let mut out = [18446744073709551615u64; 256];
+    let mut arm = [18446744073709551615u64; 256];
+    arms(image, places, k, node, c, t, &mut out, &mut arm);
+}
+
+// The same where the image has lines.
+fn wide_branch(
     image: &[u8],
     places: &[usize; 256],
     k: Task,
     node: usize,
     c: Children,
-    t: &mut [u64; 256],
+    t: &mut [u64],
 )
     requires { ⌜ ReadyAll (now image) k (now places) node (c .place) (c .count) (now t) ⌝ }
-    ensures { λ _. ⌜ (length (now (t .exit)) ≡ 256) × Branched (k .bus) (childTrees (now (image .entry)) (c .place) (c .count)) (now (t .entry)) (now (t .exit)) ⌝ }
+    ensures { λ _. ⌜ (length (now (t .exit)) ≡ length (now (t .entry))) × Branched k (childTrees (now (image .entry)) (c .place) (c .count)) (now (t .entry)) (now (t .exit)) ⌝ }
 {
+    let mut out = [18446744073709551615u64; 1024];
+    let mut arm = [18446744073709551615u64; 1024];
+    arms(image, places, k, node, c, t, &mut out, &mut arm);
+}
+
+// The arms one by one: each from the entry `t`, into `arm`, and joined to `out`, which is the exit then.
+fn arms(
+    image: &[u8],
+    places: &[usize; 256],
+    k: Task,
+    node: usize,
+    c: Children,
+    t: &mut [u64],
+    out: &mut [u64],
+    arm: &mut [u64],
+)
+    requires { ⌜ (ReadyAll (now image) k (now places) node (c .place) (c .count) (now t)) × Empty (sizeOf k) (now out) × (sizeOf k ≤ length (now arm)) ⌝ }
+    ensures { λ _. ⌜ (length (now (t .exit)) ≡ length (now (t .entry))) × Branched k (childTrees (now (image .entry)) (c .place) (c .count)) (now (t .entry)) (now (t .exit)) ⌝ }
+{
+    let n = size(k);
     let place = c.place;
     let count = c.count;
-    let mut out = [18446744073709551615u64; 256];
     let mut i = 0;
     while i < count {
         let child = image::read::word(image, place + 2 * i);
-        let mut arm = *t;
-        walk(image, places, k, child, &mut arm);
-        times::join(&mut out, &arm);
+        times::copy(arm, t, n);
+        walk(image, places, k, child, arm);
+        times::join(out, arm, n);
         i += 1;
     }
-    *t = out;
+    times::copy(t, out, n);
 }
 
-// The times after a loop: unrolled until a cycle is found or all is done, whole cycles skipped, and the rest unrolled.
-fn repeat(image: &[u8], places: &[usize; 256], k: Task, node: usize, l: Loop, t: &mut [u64; 256])
+// The times after a loop.
+fn repeat(image: &[u8], places: &[usize; 256], k: Task, node: usize, l: Loop, t: &mut [u64])
     requires { ⌜ ReadyRepeat (now image) k (now places) node l (now t) ⌝ }
-    ensures { λ _. ⌜ Walked (k .bus) (Tree.loop (l .least) (l .greatest) (treeAt (now (image .entry)) (l .body))) (now (t .entry)) (now (t .exit)) ⌝ }
+    ensures { λ _. ⌜ Walked k (Tree.loop (l .least) (l .greatest) (treeAt (now (image .entry)) (l .body))) (now (t .entry)) (now (t .exit)) ⌝ }
 {
-    let mut out = before_first(l.least, t);
-    let mut old = *t;
+    if 1 < k.sets {
+        wide_repeat(image, places, k, node, l, t);
+        return;
+    }
+    let mut out = [18446744073709551615u64; 256];
+    let mut old = [18446744073709551615u64; 256];
+    turns(image, places, k, node, l, t, &mut out, &mut old);
+}
+
+// The same where the image has lines.
+fn wide_repeat(image: &[u8], places: &[usize; 256], k: Task, node: usize, l: Loop, t: &mut [u64])
+    requires { ⌜ ReadyRepeat (now image) k (now places) node l (now t) ⌝ }
+    ensures { λ _. ⌜ Walked k (Tree.loop (l .least) (l .greatest) (treeAt (now (image .entry)) (l .body))) (now (t .entry)) (now (t .exit)) ⌝ }
+{
+    let mut out = [18446744073709551615u64; 1024];
+    let mut old = [18446744073709551615u64; 1024];
+    turns(image, places, k, node, l, t, &mut out, &mut old);
+}
+
+// A loop unrolled until a cycle is found or all is done, whole cycles skipped, and the rest unrolled. The exits are joined to `out`; `old` is what is kept for the watch.
+fn turns(
+    image: &[u8],
+    places: &[usize; 256],
+    k: Task,
+    node: usize,
+    l: Loop,
+    t: &mut [u64],
+    out: &mut [u64],
+    old: &mut [u64],
+)
+    requires { ⌜ (ReadyRepeat (now image) k (now places) node l (now t)) × Empty (sizeOf k) (now out) × (sizeOf k ≤ length (now old)) ⌝ }
+    ensures { λ _. ⌜ Walked k (Tree.loop (l .least) (l .greatest) (treeAt (now (image .entry)) (l .body))) (now (t .entry)) (now (t .exit)) ⌝ }
+{
+    let n = size(k);
+    before_first(n, l.least, t, out);
+    let span = kept(n, l.greatest, t, old);
     let begun = Watch {
         done: 0,
         gap: 0,
-        span: 1,
+        span,
         cycle: 0,
         gain: 0,
     };
@@ -193,11 +278,11 @@ fn repeat(image: &[u8], places: &[usize; 256], k: Task, node: usize, l: Loop, t:
         l.greatest,
         begun,
         t,
-        &mut out,
-        &mut old,
+        out,
+        old,
     );
     let left = l.greatest - seen.done;
-    let rest = skipped(bus::period(k.bus), left, seen, t);
+    let rest = skipped(n, left, seen, t);
     unroll(
         image,
         places,
@@ -207,10 +292,10 @@ fn repeat(image: &[u8], places: &[usize; 256], k: Task, node: usize, l: Loop, t:
         l.greatest - rest.done,
         rest,
         t,
-        &mut out,
-        &mut old,
+        out,
+        old,
     );
-    *t = out;
+    times::copy(t, out, n);
 }
 
 // `left` iterations more, as two halves; none once a cycle is found.
@@ -222,12 +307,12 @@ fn unroll(
     least: usize,
     left: usize,
     w: Watch,
-    cur: &mut [u64; 256],
-    out: &mut [u64; 256],
-    old: &mut [u64; 256],
+    cur: &mut [u64],
+    out: &mut [u64],
+    old: &mut [u64],
 ) -> Watch
     requires { ⌜ ReadyLoop (now image) k (now places) body left w (now cur) (now out) (now old) ⌝ }
-    ensures { λ r. ⌜ Unrolls (k .bus) (treeAt (now (image .entry)) body) least left w (now (cur .entry)) (now (out .entry)) r (now (cur .exit)) (now (out .exit)) (now (old .exit)) ⌝ }
+    ensures { λ r. ⌜ Unrolls k (treeAt (now (image .entry)) body) least left w (now (cur .entry)) (now (out .entry)) (now (old .entry)) r (now (cur .exit)) (now (out .exit)) (now (old .exit)) ⌝ }
 {
     if left == 0 {
         return w;
@@ -237,8 +322,8 @@ fn unroll(
     }
     if left == 1 {
         walk(image, places, k, body, cur);
-        joined(least, w.done, cur, out);
-        return watched(bus::period(k.bus), cur, old, w);
+        joined(size(k), least, w.done, cur, out);
+        return watched(size(k), cur, old, w);
     }
     let half = left / 2;
     let a = unroll(image, places, k, body, least, half, w, cur, out, old);

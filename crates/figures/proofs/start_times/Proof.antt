@@ -33,15 +33,6 @@ written s out i at o e l h =
     (λ q. let same : o ≡ at = sym (eqb-true at o q) in rw (listed-more s 9 i o, ← e, q, or-true, same) (getD-set-same out at 0 0 l))
     (λ q. rw (listed-more s 9 i o, ← e, q, or-false) (getD-set-other out at o 0 0 (λ z. eqb-false at o q (sym z)) ∙ h))
 
--- an array whose places hold 0 where they are listed, and no time elsewhere
-started : (s : List ℕ) (b : Bus) (r : List ℕ) → ((o : ℕ) → o < busPeriod b → getD r o 0 ≡ cond (listed (startsOf s) o) 0 noTime) → Started s b r
-unfolding tableOf startTimes
-started s b r h = row-same (busPeriod b) _ _ (λ o l. ap timeOf (h o l) ∙ entry (listed (startsOf s) o))
-  where
-    entry : (t : Bool) → timeOf (cond t 0 noTime) ≡ cond t (some 0) none
-    entry true = time-some 0 (λ z. omega arith)
-    entry false = time-none noTime refl
-
 abbrev Inv-loop : tie.InvT-loop
 Inv-loop image n out₀ i₀ out i =
     (i ≤ n) × (length out ≡ 256) × ((o : ℕ) → o < 256 → getD out o 0 ≡ cond (listed (bytes image 9 i) o) 0 noTime)
@@ -85,7 +76,7 @@ returns c =
     let s = st .args .image .now in
     let few = st .pre .ranges .period-most in
     let e : l .i ≡ wordAt s 7 = omega (arith, st .pre .count) in
-    (l .inv .1, started s (st .args .b) (l .out) (λ o h. rw e at (l .inv .2 o (omega arith))))
+    (l .inv .1, (λ o h. rw e at (l .inv .2 o (omega arith))))
 
 pub start-times-spec : {M : Type 1} → statement M
 start-times-spec =

@@ -3,10 +3,17 @@ use borrow.Author.Needs.{needs}
 use Rattle.image.proofs.whole.Statement.{statement}
 use Rattle.image.proofs.whole.Tie as tie
 use Rattle.runs.specs.Nodes.{depth, visits}
-use Rattle.image.specs.Nodes.{treeAt}
+use Rattle.image.specs.Nodes.{treeAt, linesOf}
 use Rattle.image.specs.Judged.{wholeOf}
-use mathlib.Core.Path.{_≡_}
-use Prim.Native.Nat.{_+_, _-_}
+use Rattle.runs.specs.Lines.{power}
+use Rattle.image.specs.Bytes.{byteAt}
+use Rattle.image.specs.Conditions.{Passed}
+use Rattle.image.proofs.Numbers.{product-fits}
+use Rattle.image.proofs.Fetches.{lines-few, few-sets}
+use mathlib.Core.Path.{_≡_, _∙_, ap}
+use mathlib.Core.List.{List}
+use native.Mathlib.Nat.{mul-le-mul}
+use Prim.Native.Nat.{ℕ, suc, _+_, _-_, _*_, _≤_, _<_}
 use native.Mathlib.Omega.{arith}
 use borrow.Author.Tests.{lt-ltb, le-ltb}
 
@@ -48,25 +55,87 @@ returns-3 c =
 bus-at-requires : tie.Need-bus-at-requires
 bus-at-requires c κs = search needs
 
-word-requires : tie.Need-word-requires
-word-requires c κs = search needs
+sub-lines : tie.Need-sub-lines
+sub-lines c = search needs
 
-sub-t14 : tie.Need-sub-t14
-sub-t14 c = search needs
+lines-requires : tie.Need-lines-requires
+lines-requires c κs =
+    let start = c .before .before .before .before .before .before .before .before in
+    let n = start .args .count in
+    let e : n - 2 + 2 ≡ n = omega arith in
+    (rw e (start .pre .0 .passed), rw e (start .pre .1))
+
+-- at most 4 lines
+few-lines : (s : List ℕ) (n : ℕ) → 3 ≤ n → Passed s n → linesOf s (n - 2) ≤ 4
+few-lines s n h p = let e : n - 2 + 2 ≡ n = omega arith in lines-few s (n - 2) (rw e p)
+
+power-requires : tie.Need-power-requires
+power-requires c κs =
+    let start = c .before .before .before .before .before .before .before .before .before in
+    omega (arith, c .lines .ensures, few-lines (start .args .image .now) (start .args .count) (c .before .before .before .before .before .before .before .if1 .left) (start .pre .0 .passed))
+
+mul-if4 : tie.Need-mul-if4
+mul-if4 c = let b = c .before .before .before .bus-at .ensures in product-fits _ _ (omega (arith, b .1)) (omega (arith, b .2))
+
+mul-if4-2 : tie.Need-mul-if4-2
+mul-if4-2 c =
+    let start = c .before .before .before .before .before .before .before .before .before .before .before in
+    let b = c .before .before .before .bus-at .ensures in
+    let few = few-lines (start .args .image .now) (start .args .count) (c .before .before .before .before .before .before .before .before .before .if1 .left) (start .pre .0 .passed) in
+    let most = few-sets _ few in
+    let l = c .before .before .lines .ensures in
+    let k = c .before .before .before .bus-at .result in
+    let h : k .cores ≤ 255 = omega (arith, b .1) in
+    let g : k .slot ≤ 255 = omega (arith, b .2) in
+    let p : k .cores * k .slot ≤ 255 * 255 = mul-le-mul h g in
+    product-fits _ _ (omega (arith, p)) (omega (arith, c .before .power .ensures ∙ ap power l, most))
 
 returns-4 : tie.Need-returns-4
 unfolding wholeOf
 returns-4 c =
-    let s = c .before .before .before .before .before .before .before .before .before .args .image .now in
-    let n = c .before .before .before .before .before .before .before .before .before .args .count in
+    let start = c .before .before .before .before .before .before .before .before .before .before .before .before in
+    let s = start .args .image .now in
+    let n = start .args .count in
     let q : n - 2 - 1 ≡ n - 3 = omega arith in
-    let d = rw q at (c .before .before .before .before .before .before .weights .ensures .deep) in
-    let v = rw q at (c .before .before .before .before .before .before .weights .ensures .long) in
-    rw (c .before .bus-at .ensures .0, c .word .ensures .0)
+    let w = c .before .before .before .before .before .before .before .before .before .weights .ensures in
+    let d = rw q at (w .deep) in
+    let v = rw q at (w .long) in
+    let b = c .before .before .before .before .bus-at .ensures .0 in
+    let x = c .before .before .power .ensures ∙ ap power (c .before .before .before .lines .ensures) in
+    let wide : 1024 < byteAt s 3 * byteAt s 4 * power (linesOf s (n - 2)) = rw (b, x) at (c .if4 .taken) in
+    simp (
+      le-ltb n 3 (c .before .before .before .before .before .before .before .before .before .before .if1 .left),
+      le-ltb 24 (depth (treeAt s (n - 3))) (omega (arith, d, c .before .before .before .before .before .before .before .if2 .left)),
+      le-ltb 100000 (visits (treeAt s (n - 3))) (omega (arith, v, c .before .before .before .before .before .if3 .left)),
+      lt-ltb 1024 (byteAt s 3 * byteAt s 4 * power (linesOf s (n - 2))) wide,
+    )
+
+word-requires : tie.Need-word-requires
+word-requires c κs = search needs
+
+sub-t16 : tie.Need-sub-t16
+sub-t16 c = search needs
+
+returns-5 : tie.Need-returns-5
+unfolding wholeOf
+returns-5 c =
+    let start = c .before .before .before .before .before .before .before .before .before .before .before .before .before in
+    let s = start .args .image .now in
+    let n = start .args .count in
+    let q : n - 2 - 1 ≡ n - 3 = omega arith in
+    let w = c .before .before .before .before .before .before .before .before .before .before .weights .ensures in
+    let d = rw q at (w .deep) in
+    let v = rw q at (w .long) in
+    let b = c .before .before .before .before .before .bus-at .ensures .0 in
+    let l = c .before .before .before .before .lines .ensures in
+    let x = c .before .before .before .power .ensures ∙ ap power l in
+    let narrow : byteAt s 3 * byteAt s 4 * power (linesOf s (n - 2)) ≤ 1024 = rw (b, x) at (c .before .if4 .left) in
+    rw (b, c .word .ensures .0, x, l)
     (simp (
-      le-ltb n 3 (c .before .before .before .before .before .before .before .if1 .left),
-      le-ltb 24 (depth (treeAt s (n - 3))) (omega (arith, d, c .before .before .before .before .if2 .left)),
-      le-ltb 100000 (visits (treeAt s (n - 3))) (omega (arith, v, c .before .before .if3 .left)),
+      le-ltb n 3 (c .before .before .before .before .before .before .before .before .before .before .before .if1 .left),
+      le-ltb 24 (depth (treeAt s (n - 3))) (omega (arith, d, c .before .before .before .before .before .before .before .before .if2 .left)),
+      le-ltb 100000 (visits (treeAt s (n - 3))) (omega (arith, v, c .before .before .before .before .before .before .if3 .left)),
+      le-ltb 1024 (byteAt s 3 * byteAt s 4 * power (linesOf s (n - 2))) narrow,
     ))
 
 pub whole-spec : {M : Type 1} → statement M
@@ -79,6 +148,12 @@ whole-spec =
     returns-2
     returns-3
     bus-at-requires
+    sub-lines
+    lines-requires
+    power-requires
+    mul-if4
+    mul-if4-2
+    returns-4
     word-requires
-    sub-t14
-    returns-4)
+    sub-t16
+    returns-5)

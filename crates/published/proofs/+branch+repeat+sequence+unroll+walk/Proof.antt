@@ -16,7 +16,7 @@ use Rattle.published.specs.Steps.{bits, afterAll, afterAny}
 use Rattle.published.proofs.Joins.{empty-at, empty-within, join-within}
 use Rattle.published.proofs.Parts.{cost-all-done, cost-any-done}
 use Rattle.published.proofs.Children.{outcome-small, child-low, visits-split, child-ready, child-small, next-in-order, next-cost, next-arm, next-arm-cost}
-use Rattle.published.proofs.Descents.{in-image, in-places, plain-ready, plain-done, block-ready, block-done, sequence-ready, sequence-done, branch-ready, branch-done, repeat-ready, repeat-done}
+use Rattle.published.proofs.Descents.{in-image, in-places, plain-ready, plain-done, block-ready, block-done, once-ready, once-done, sequence-ready, sequence-done, branch-ready, branch-done, repeat-ready, repeat-done}
 use Rattle.published.proofs.Loops.{one-ready, half-ready, other-ready, none-unrolls, one-asks, one-unrolls, both-unroll, begun-ready, seen-few, seen-ready, seen-cheap, skip-few, rest-ready, repeat-published}
 use native.Mathlib.Omega.{arith}
 use borrow.Author.Needs.{needs}
@@ -46,6 +46,7 @@ use Rattle.published.proofs.before_first.Reads as before-first-reads
 use Rattle.published.proofs.block_outcome.Reads as block-outcome-reads
 use Rattle.published.proofs.joined.Reads as joined-reads
 use Rattle.published.proofs.larger.Reads as larger-reads
+use Rattle.published.proofs.once_outcome.Reads as once-outcome-reads
 use Rattle.published.proofs.plain_outcome.Reads as plain-outcome-reads
 use Rattle.published.proofs.skipped.Reads as skipped-reads
 use Rattle.published.proofs.watched.Reads as watched-reads
@@ -148,6 +149,8 @@ walk-claims t = (
   plain-outcome-reads.Learnt,
   block-outcome-reads.Asked,
   block-outcome-reads.Learnt,
+  once-outcome-reads.Asked,
+  once-outcome-reads.Learnt,
   sequence-below t,
   sequence.Post,
   branch-below t,
@@ -484,34 +487,45 @@ walk-block-outcome-requires t c κs =
 walk-enum-known-n-3 : (t : ℕ) → walk-lts.Need-enum-known-n-3 (walk-claims t) (walk-at t) walk.Post
 walk-enum-known-n-3 t c = c .match .keys3
 
-walk-sequence-requires : (t : ℕ) → walk-lts.Need-sequence-requires (walk-claims t) (walk-at t) walk.Post
-walk-sequence-requires t c κs =
+walk-once-outcome-requires : (t : ℕ) → walk-lts.Need-once-outcome-requires (walk-claims t) (walk-at t) walk.Post
+walk-once-outcome-requires t c κs =
     let s = c .before .before .before .before .before .before .before in
     let a = s .args in
     let e = sym (c .before .before .before .before .node-at .ensures) ∙ c .before .n3 .given .1 in
     let x = c .before .n3 .given .0 .0 in
-    (omega (arith, s .pre .0), sequence-ready (a .image .now) (a .k) (a .places .now) (a .node) (a .s) (s .pre .1) x e)
+    once-ready (a .image .now) (a .k) (a .places .now) (a .node) (a .s) (s .pre .1) x e
 
 walk-enum-known-n-4 : (t : ℕ) → walk-lts.Need-enum-known-n-4 (walk-claims t) (walk-at t) walk.Post
 walk-enum-known-n-4 t c = c .match .keys4
+
+walk-sequence-requires : (t : ℕ) → walk-lts.Need-sequence-requires (walk-claims t) (walk-at t) walk.Post
+walk-sequence-requires t c κs =
+    let s = c .before .before .before .before .before .before .before in
+    let a = s .args in
+    let e = sym (c .before .before .before .before .node-at .ensures) ∙ c .before .n4 .given .1 in
+    let x = c .before .n4 .given .0 .0 in
+    (omega (arith, s .pre .0), sequence-ready (a .image .now) (a .k) (a .places .now) (a .node) (a .s) (s .pre .1) x e)
+
+walk-enum-known-n-5 : (t : ℕ) → walk-lts.Need-enum-known-n-5 (walk-claims t) (walk-at t) walk.Post
+walk-enum-known-n-5 t c = c .match .keys5
 
 walk-branch-requires : (t : ℕ) → walk-lts.Need-branch-requires (walk-claims t) (walk-at t) walk.Post
 walk-branch-requires t c κs =
     let s = c .before .before .before .before .before .before .before in
     let a = s .args in
-    let e = sym (c .before .before .before .before .node-at .ensures) ∙ c .before .n4 .given .1 in
-    let x = c .before .n4 .given .0 .0 in
+    let e = sym (c .before .before .before .before .node-at .ensures) ∙ c .before .n5 .given .1 in
+    let x = c .before .n5 .given .0 .0 in
     (omega (arith, s .pre .0), branch-ready (a .image .now) (a .k) (a .places .now) (a .node) (a .s) (s .pre .1) x e)
 
-walk-enum-known-n-5 : (t : ℕ) → walk-lts.Need-enum-known-n-5 (walk-claims t) (walk-at t) walk.Post
-walk-enum-known-n-5 t c = c .match .keys5
+walk-enum-known-n-6 : (t : ℕ) → walk-lts.Need-enum-known-n-6 (walk-claims t) (walk-at t) walk.Post
+walk-enum-known-n-6 t c = c .match .keys6
 
 walk-repeat-requires : (t : ℕ) → walk-lts.Need-repeat-requires (walk-claims t) (walk-at t) walk.Post
 walk-repeat-requires t c κs =
     let s = c .before .before .before .before .before .before .before in
     let a = s .args in
-    let e = sym (c .before .before .before .before .node-at .ensures) ∙ c .before .n5 .given .1 in
-    let x = c .before .n5 .given .0 .0 in
+    let e = sym (c .before .before .before .before .node-at .ensures) ∙ c .before .n6 .given .1 in
+    let x = c .before .n6 .given .0 .0 in
     (omega (arith, s .pre .0), repeat-ready (a .image .now) (a .k) (a .places .now) (a .node) (a .s) (s .pre .1) x e)
 
 walk-returns : (t : ℕ) → walk-lts.Need-returns (walk-claims t) (walk-at t) walk.Post
@@ -536,7 +550,7 @@ walk-returns-3 t c =
     let a = s .args in
     let e = sym (c .before .before .before .before .before .node-at .ensures) ∙ c .before .before .n3 .given .1 in
     let x = c .before .before .n3 .given .0 .0 in
-    sequence-done (a .image .now) (a .k) (a .places .now) (a .node) (a .s) (s .pre .1) x e (c .sequence .result) (c .sequence .ensures)
+    once-done (a .image .now) (a .k) (a .places .now) (a .node) (a .s) (s .pre .1) x e (c .once-outcome .result) (c .once-outcome .ensures)
 
 walk-returns-4 : (t : ℕ) → walk-lts.Need-returns-4 (walk-claims t) (walk-at t) walk.Post
 walk-returns-4 t c =
@@ -544,7 +558,7 @@ walk-returns-4 t c =
     let a = s .args in
     let e = sym (c .before .before .before .before .before .node-at .ensures) ∙ c .before .before .n4 .given .1 in
     let x = c .before .before .n4 .given .0 .0 in
-    branch-done (a .image .now) (a .k) (a .places .now) (a .node) (a .s) (s .pre .1) x e (c .branch .result) (c .branch .ensures)
+    sequence-done (a .image .now) (a .k) (a .places .now) (a .node) (a .s) (s .pre .1) x e (c .sequence .result) (c .sequence .ensures)
 
 walk-returns-5 : (t : ℕ) → walk-lts.Need-returns-5 (walk-claims t) (walk-at t) walk.Post
 walk-returns-5 t c =
@@ -552,6 +566,14 @@ walk-returns-5 t c =
     let a = s .args in
     let e = sym (c .before .before .before .before .before .node-at .ensures) ∙ c .before .before .n5 .given .1 in
     let x = c .before .before .n5 .given .0 .0 in
+    branch-done (a .image .now) (a .k) (a .places .now) (a .node) (a .s) (s .pre .1) x e (c .branch .result) (c .branch .ensures)
+
+walk-returns-6 : (t : ℕ) → walk-lts.Need-returns-6 (walk-claims t) (walk-at t) walk.Post
+walk-returns-6 t c =
+    let s = c .before .before .before .before .before .before .before .before in
+    let a = s .args in
+    let e = sym (c .before .before .before .before .before .node-at .ensures) ∙ c .before .before .n6 .given .1 in
+    let x = c .before .before .n6 .given .0 .0 in
     repeat-done (a .image .now) (a .k) (a .places .now) (a .node) (a .s) (s .pre .1) x e (c .repeat .result) (c .repeat .ensures)
 
 pub +branch+repeat+sequence+unroll+walk-spec : {M : Type 1} → statement M
@@ -623,13 +645,16 @@ pub +branch+repeat+sequence+unroll+walk-spec : {M : Type 1} → statement M
     (walk-enum-known-n-2 t)
     (walk-block-outcome-requires t)
     (walk-enum-known-n-3 t)
-    (walk-sequence-requires t)
+    (walk-once-outcome-requires t)
     (walk-enum-known-n-4 t)
-    (walk-branch-requires t)
+    (walk-sequence-requires t)
     (walk-enum-known-n-5 t)
+    (walk-branch-requires t)
+    (walk-enum-known-n-6 t)
     (walk-repeat-requires t)
     (walk-returns t)
     (walk-returns-2 t)
     (walk-returns-3 t)
     (walk-returns-4 t)
     (walk-returns-5 t)
+    (walk-returns-6 t)

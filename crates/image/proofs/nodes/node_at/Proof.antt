@@ -46,11 +46,26 @@ add-byte-2 c = search needs
 byte-requires-4 : tie.Need-byte-requires-4
 byte-requires-4 c κs = search needs
 
-word-requires-4 : tie.Need-word-requires-4
-word-requires-4 c κs = search needs
+byte-requires-5 : tie.Need-byte-requires-5
+byte-requires-5 c κs = search needs
+
+add-byte-3 : tie.Need-add-byte-3
+add-byte-3 c = search needs
+
+byte-requires-6 : tie.Need-byte-requires-6
+byte-requires-6 c κs = search needs
+
+add-byte-4 : tie.Need-add-byte-4
+add-byte-4 c = search needs
+
+byte-requires-7 : tie.Need-byte-requires-7
+byte-requires-7 c κs = search needs
 
 add-word-3 : tie.Need-add-word-3
 add-word-3 c = search needs
+
+word-requires-4 : tie.Need-word-requires-4
+word-requires-4 c κs = search needs
 
 word-requires-5 : tie.Need-word-requires-5
 word-requires-5 c κs = search needs
@@ -60,6 +75,12 @@ add-word-4 c = search needs
 
 word-requires-6 : tie.Need-word-requires-6
 word-requires-6 c κs = search needs
+
+add-word-5 : tie.Need-add-word-5
+add-word-5 c = search needs
+
+word-requires-7 : tie.Need-word-requires-7
+word-requires-7 c κs = search needs
 
 returns : tie.Need-returns
 unfolding nodeFrom
@@ -87,16 +108,28 @@ returns-4 c = rw (sym (c .before .before .byte .ensures .0) ∙ c .match .keys4,
 returns-5 : tie.Need-returns-5
 unfolding nodeFrom
 returns-5 c =
+    rw (
+      sym (c .before .before .before .before .before .before .byte .ensures .0) ∙ c .before .before .before .before .match .keys5,
+      c .before .before .before .byte5 .ensures .0,
+      c .before .before .byte6 .ensures .0,
+      c .before .byte7 .ensures .0,
+      c .word4 .ensures .0,
+    )
+
+returns-6 : tie.Need-returns-6
+unfolding nodeFrom
+returns-6 c =
     let a = c .before .before .before .before .before .before .before .args in
     let tag = byteAt (a .image .now) (a .at) in
     let b = c .before .before .before .before .before .byte .ensures .0 in
     let r = c .before .before .before .match .rest in
-    rw (c .before .before .word4 .ensures .0, c .before .word5 .ensures .0, c .word6 .ensures .0)
+    rw (c .before .before .word5 .ensures .0, c .before .word6 .ensures .0, c .word7 .ensures .0)
     (simp (
-      ne-eqb tag 3 (λ q. r .0 .0 .0 .1 (b ∙ q)),
-      ne-eqb tag 4 (λ q. r .0 .0 .1 (b ∙ q)),
-      ne-eqb tag 5 (λ q. r .0 .1 (b ∙ q)),
-      ne-eqb tag 6 (λ q. r .1 (b ∙ q)),
+      ne-eqb tag 3 (λ q. r .0 .0 .0 .0 .1 (b ∙ q)),
+      ne-eqb tag 4 (λ q. r .0 .0 .0 .1 (b ∙ q)),
+      ne-eqb tag 5 (λ q. r .0 .0 .1 (b ∙ q)),
+      ne-eqb tag 6 (λ q. r .0 .1 (b ∙ q)),
+      ne-eqb tag 10 (λ q. r .1 (b ∙ q)),
     ))
 
 pub node-at-spec : {M : Type 1} → statement M
@@ -116,13 +149,21 @@ node-at-spec =
     byte-requires-3
     add-byte-2
     byte-requires-4
-    word-requires-4
+    byte-requires-5
+    add-byte-3
+    byte-requires-6
+    add-byte-4
+    byte-requires-7
     add-word-3
+    word-requires-4
     word-requires-5
     add-word-4
     word-requires-6
+    add-word-5
+    word-requires-7
     returns
     returns-2
     returns-3
     returns-4
-    returns-5)
+    returns-5
+    returns-6)

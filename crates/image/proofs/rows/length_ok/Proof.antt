@@ -41,17 +41,22 @@ returns-6 c = rw (c .match .keys6)
 
 returns-7 : tie.Need-returns-7
 unfolding lengthOk
-returns-7 c =
+returns-7 c = rw (c .match .keys7)
+
+returns-8 : tie.Need-returns-8
+unfolding lengthOk
+returns-8 c =
     let r = c .match .rest in
     let tag = c .before .args .tag in
     simp (
-      ne-eqb tag 1 (λ e. r .0 .0 .0 .0 .0 .1 (inl e)),
-      ne-eqb tag 2 (r .0 .0 .0 .0 .1),
-      ne-eqb tag 3 (r .0 .0 .0 .1),
-      ne-eqb tag 4 (λ e. r .0 .0 .0 .0 .0 .1 (inr e)),
-      ne-eqb tag 5 (r .0 .0 .1),
-      ne-eqb tag 6 (r .0 .1),
-      ne-eqb tag 7 (r .1),
+      ne-eqb tag 1 (λ e. r .0 .0 .0 .0 .0 .0 .1 (inl e)),
+      ne-eqb tag 2 (r .0 .0 .0 .0 .0 .1),
+      ne-eqb tag 3 (r .0 .0 .0 .0 .1),
+      ne-eqb tag 4 (λ e. r .0 .0 .0 .0 .0 .0 .1 (inr e)),
+      ne-eqb tag 5 (r .0 .0 .0 .1),
+      ne-eqb tag 6 (r .0 .0 .1),
+      ne-eqb tag 7 (r .0 .1),
+      ne-eqb tag 10 (r .1),
     )
 
 pub length-ok-spec : {M : Type 1} → statement M
@@ -67,4 +72,5 @@ length-ok-spec =
     returns-4
     returns-5
     returns-6
-    returns-7)
+    returns-7
+    returns-8)

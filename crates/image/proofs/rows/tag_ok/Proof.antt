@@ -15,21 +15,25 @@ returns-2 c = simp (ne-eqb _ _ (c .before .if1 .left), eq-eqb _ _ (c .if2 .taken
 
 returns-3 : tie.Need-returns-3
 unfolding tagOk
-returns-3 c =
-    let tag = c .before .before .before .before .args .tag in
-    simp (ne-eqb _ _ (c .before .before .before .if1 .left), ne-eqb _ _ (c .before .before .if2 .left), le-leb 3 tag (omega arith), le-leb tag 7 (omega arith))
+returns-3 c = simp (ne-eqb _ _ (c .before .before .if1 .left), ne-eqb _ _ (c .before .if2 .left), eq-eqb _ _ (c .match .keys1))
 
 returns-4 : tie.Need-returns-4
 unfolding tagOk
 returns-4 c =
-    let tag = c .before .before .before .args .tag in
-    simp (ne-eqb _ _ (c .before .before .if1 .left), ne-eqb _ _ (c .before .if2 .left), lt-leb 3 tag (omega arith))
+    let tag = c .before .before .before .before .before .args .tag in
+    simp (ne-eqb _ _ (c .before .before .before .before .if1 .left), ne-eqb _ _ (c .before .before .before .if2 .left), ne-eqb tag 10 (c .before .before .match .rest .1), le-leb 3 tag (omega arith), le-leb tag 7 (omega arith))
 
 returns-5 : tie.Need-returns-5
 unfolding tagOk
 returns-5 c =
     let tag = c .before .before .before .before .args .tag in
-    simp (ne-eqb _ _ (c .before .before .before .if1 .left), ne-eqb _ _ (c .before .before .if2 .left), le-leb 3 tag (omega arith), lt-leb tag 7 (omega arith))
+    simp (ne-eqb _ _ (c .before .before .before .if1 .left), ne-eqb _ _ (c .before .before .if2 .left), ne-eqb tag 10 (c .before .match .rest .1), lt-leb 3 tag (omega arith))
+
+returns-6 : tie.Need-returns-6
+unfolding tagOk
+returns-6 c =
+    let tag = c .before .before .before .before .before .args .tag in
+    simp (ne-eqb _ _ (c .before .before .before .before .if1 .left), ne-eqb _ _ (c .before .before .before .if2 .left), ne-eqb tag 10 (c .before .before .match .rest .1), le-leb 3 tag (omega arith), lt-leb tag 7 (omega arith))
 
 pub tag-ok-spec : {M : Type 1} → statement M
-tag-ok-spec = tie.close (tie.spec returns returns-2 returns-3 returns-4 returns-5)
+tag-ok-spec = tie.close (tie.spec returns returns-2 returns-3 returns-4 returns-5 returns-6)

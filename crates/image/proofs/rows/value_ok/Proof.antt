@@ -2,7 +2,7 @@
 use borrow.Author.Needs.{needs}
 use Rattle.image.proofs.rows.value_ok.Statement.{statement}
 use Rattle.image.proofs.rows.value_ok.Tie as tie
-use Rattle.image.specs.Fields.{valueOk, startsOk, blockOk}
+use Rattle.image.specs.Fields.{valueOk, startsOk, blockOk, onceOk}
 use Rattle.bus.specs.declared.Bus.{Bus}
 use Rattle.image.proofs.Numbers.{product-fits}
 use mathlib.Core.Path.{sym, _∙_, ap}
@@ -82,6 +82,33 @@ word-requires-4 c κs = search needs
 loop-ok-requires : tie.Need-loop-ok-requires
 loop-ok-requires c κs = search needs
 
+bus-at-requires-3 : tie.Need-bus-at-requires-3
+bus-at-requires-3 c κs = search needs
+
+byte-requires-7 : tie.Need-byte-requires-7
+byte-requires-7 c κs = search needs
+
+add-byte-5 : tie.Need-add-byte-5
+add-byte-5 c = search needs
+
+byte-requires-8 : tie.Need-byte-requires-8
+byte-requires-8 c κs = search needs
+
+add-byte-6 : tie.Need-add-byte-6
+add-byte-6 c = search needs
+
+byte-requires-9 : tie.Need-byte-requires-9
+byte-requires-9 c κs = search needs
+
+add-word-3 : tie.Need-add-word-3
+add-word-3 c = search needs
+
+word-requires-5 : tie.Need-word-requires-5
+word-requires-5 c κs = search needs
+
+once-ok-requires : tie.Need-once-ok-requires
+once-ok-requires c κs = search needs
+
 returns : tie.Need-returns
 unfolding valueOk
 returns c = rw (c .before .before .before .before .match .keys1, sym (c .before .before .before .byte .ensures .0), sym (c .before .before .byte2 .ensures .0), sym (c .before .byte3 .ensures .0)) (c .bus-ok .ensures)
@@ -110,9 +137,15 @@ returns-5 c = rw (c .before .before .before .match .keys5, sym (c .before .befor
 returns-6 : tie.Need-returns-6
 unfolding valueOk
 returns-6 c =
+    rw (c .before .before .before .before .before .before .match .keys6, sym (c .before .before .before .before .byte7 .ensures .0), sym (c .before .before .before .byte8 .ensures .0), sym (c .before .before .byte9 .ensures .0), sym (c .before .word5 .ensures .0))
+    (c .once-ok .ensures ∙ ap (λ (x : Bus). onceOk (c .before .before .before .before .byte7 .result) (c .before .before .before .byte8 .result) (c .before .before .byte9 .result) (c .before .word5 .result) (x .slot)) (c .before .before .before .before .before .bus-at3 .ensures .0))
+
+returns-7 : tie.Need-returns-7
+unfolding valueOk
+returns-7 c =
     let r = c .match .rest in
     let tag = c .before .before .args .tag in
-    simp (ne-eqb tag 1 (r .0 .0 .0 .0 .1), ne-eqb tag 2 (r .0 .0 .0 .1), ne-eqb tag 3 (r .0 .0 .1), ne-eqb tag 4 (r .0 .1), ne-eqb tag 7 (r .1))
+    simp (ne-eqb tag 1 (r .0 .0 .0 .0 .0 .1), ne-eqb tag 2 (r .0 .0 .0 .0 .1), ne-eqb tag 3 (r .0 .0 .0 .1), ne-eqb tag 4 (r .0 .0 .1), ne-eqb tag 7 (r .0 .1), ne-eqb tag 10 (r .1))
 
 pub value-ok-spec : {M : Type 1} → statement M
 value-ok-spec =
@@ -142,9 +175,19 @@ value-ok-spec =
     add-word-2
     word-requires-4
     loop-ok-requires
+    bus-at-requires-3
+    byte-requires-7
+    add-byte-5
+    byte-requires-8
+    add-byte-6
+    byte-requires-9
+    add-word-3
+    word-requires-5
+    once-ok-requires
     returns
     returns-2
     returns-3
     returns-4
     returns-5
-    returns-6)
+    returns-6
+    returns-7)

@@ -35,6 +35,12 @@ enum-told-2 c = search needs
 above-requires-2 : tie.Need-above-requires-2
 above-requires-2 c κs = search needs
 
+enum-told-3 : tie.Need-enum-told-3
+enum-told-3 c = search needs
+
+above-requires-3 : tie.Need-above-requires-3
+above-requires-3 c κs = search needs
+
 enum-known-node : tie.Need-enum-known-node
 enum-known-node c = search needs
 
@@ -46,9 +52,9 @@ over-children-requires c κs =
     let f = fine-here _ _ _ (start .pre .0) _ e in
     (omega (arith, f .2), omega (arith, f .1), omega (arith, few-here _ _ _ (start .pre .0)), f .3, start .pre .1)
 
-above-requires-3 : tie.Need-above-requires-3
+above-requires-4 : tie.Need-above-requires-4
 unfolding Fine
-above-requires-3 c κs =
+above-requires-4 c κs =
     let start = c .before .before .before .before .before .before in
     let e = sym (c .before .before .before .before .node-at .ensures) ∙ c .before .before .node .given .1 in
     let f = fine-here _ _ _ (start .pre .0) _ e in
@@ -66,9 +72,9 @@ over-children-requires-2 c κs =
     let f = fine-here _ _ _ (start .pre .0) _ e in
     (omega (arith, f .2), omega (arith, f .1), omega (arith, few-here _ _ _ (start .pre .0)), f .3, start .pre .1)
 
-above-requires-4 : tie.Need-above-requires-4
+above-requires-5 : tie.Need-above-requires-5
 unfolding Fine
-above-requires-4 c κs =
+above-requires-5 c κs =
     let start = c .before .before .before .before .before .before in
     let e = sym (c .before .before .before .before .node-at .ensures) ∙ c .before .before .node2 .given .1 in
     let f = fine-here _ _ _ (start .pre .0) _ e in
@@ -78,41 +84,41 @@ above-requires-4 c κs =
 enum-known-node-3 : tie.Need-enum-known-node-3
 enum-known-node-3 c = search needs
 
-mul-t16 : tie.Need-mul-t16
+mul-t17 : tie.Need-mul-t17
 unfolding Fine
-mul-t16 c =
+mul-t17 c =
     let start = c .before .before .before .before .before in
     let e = sym (c .before .before .before .node-at .ensures) ∙ c .before .node3 .given .1 in
     let f = fine-here _ _ _ (start .pre .0) _ e in
     let h : c .before .node3 .given .0 .0 .body < 256 = omega (arith, f .2, few-here _ _ _ (start .pre .0)) in omega arith
 
-element-copy-out-t19 : tie.Need-element-copy-out-t19
+element-copy-out-t20 : tie.Need-element-copy-out-t20
 unfolding Fine
-element-copy-out-t19 c =
+element-copy-out-t20 c =
     let start = c .before .before .before .before .before in
     let e = sym (c .before .before .before .node-at .ensures) ∙ c .before .node3 .given .1 in
     let f = fine-here _ _ _ (start .pre .0) _ e in
     let h : c .before .node3 .given .0 .0 .body < 256 = omega (arith, f .2, few-here _ _ _ (start .pre .0)) in h
 
-mul-t20 : tie.Need-mul-t20
+mul-t21 : tie.Need-mul-t21
 unfolding Fine
-mul-t20 c =
+mul-t21 c =
     let start = c .before .before .before .before .before .before in
     let e = sym (c .before .before .before .before .node-at .ensures) ∙ c .before .before .node3 .given .1 in
     let f = fine-here _ _ _ (start .pre .0) _ e in
     let h : c .before .before .node3 .given .0 .0 .body < 256 = omega (arith, f .2, few-here _ _ _ (start .pre .0)) in omega arith
 
-element-copy-out-t23 : tie.Need-element-copy-out-t23
+element-copy-out-t24 : tie.Need-element-copy-out-t24
 unfolding Fine
-element-copy-out-t23 c =
+element-copy-out-t24 c =
     let start = c .before .before .before .before .before .before in
     let e = sym (c .before .before .before .before .node-at .ensures) ∙ c .before .before .node3 .given .1 in
     let f = fine-here _ _ _ (start .pre .0) _ e in
     let h : c .before .before .node3 .given .0 .0 .body < 256 = omega (arith, f .2, few-here _ _ _ (start .pre .0)) in h
 
-mul-t24 : tie.Need-mul-t24
+mul-t25 : tie.Need-mul-t25
 unfolding Fine
-mul-t24 c =
+mul-t25 c =
     let start = c .before .before .before .before .before .before .before .before in
     let e = sym (c .before .before .before .before .before .before .node-at .ensures) ∙ c .before .before .before .before .node3 .given .1 in
     let f = fine-here _ _ _ (start .pre .0) _ e in
@@ -121,9 +127,9 @@ mul-t24 c =
     let low : v ≤ 100001 = omega (arith, start .pre .1 .long (l .body) (f .2)) in
     product-fits (l .greatest) v (omega (arith, f .1)) (omega arith)
 
-above-requires-5 : tie.Need-above-requires-5
+above-requires-6 : tie.Need-above-requires-6
 unfolding Fine
-above-requires-5 c κs =
+above-requires-6 c κs =
     let start = c .before .before .before .before .before .before .before .before in
     let e = sym (c .before .before .before .before .before .before .node-at .ensures) ∙ c .before .before .before .before .node3 .given .1 in
     let f = fine-here _ _ _ (start .pre .0) _ e in
@@ -150,22 +156,29 @@ returns-2 c =
 returns-3 : tie.Need-returns-3
 unfolding treeBy meant depth visited
 returns-3 c =
-    let start = c .before .before .before .before .before .before .before in
-    let t = tree-here _ _ _ (start .pre .0) _ (sym (c .before .before .before .before .before .node-at .ensures) ∙ c .before .before .before .node .given .1) in
-    let w = c .before .over-children .ensures in
-    record { deep = rw t (c .above3 .ensures .0 ∙ one-deeper _ _ (w .deep)); long = rw t (c .above3 .ensures .1 ∙ one-more _ _ (w .long)) }
+    let start = c .before .before .before .before .before in
+    let t = tree-here _ _ _ (start .pre .0) _ (sym (c .before .before .before .node-at .ensures) ∙ c .before .enum-told3 .given .1) in
+    record { deep = rw t (c .above3 .ensures .0); long = rw t (c .above3 .ensures .1) }
 
 returns-4 : tie.Need-returns-4
 unfolding treeBy meant depth visited
 returns-4 c =
     let start = c .before .before .before .before .before .before .before in
-    let t = tree-here _ _ _ (start .pre .0) _ (sym (c .before .before .before .before .before .node-at .ensures) ∙ c .before .before .before .node2 .given .1) in
-    let w = c .before .over-children2 .ensures in
+    let t = tree-here _ _ _ (start .pre .0) _ (sym (c .before .before .before .before .before .node-at .ensures) ∙ c .before .before .before .node .given .1) in
+    let w = c .before .over-children .ensures in
     record { deep = rw t (c .above4 .ensures .0 ∙ one-deeper _ _ (w .deep)); long = rw t (c .above4 .ensures .1 ∙ one-more _ _ (w .long)) }
 
 returns-5 : tie.Need-returns-5
-unfolding treeBy meant depth visited Fine
+unfolding treeBy meant depth visited
 returns-5 c =
+    let start = c .before .before .before .before .before .before .before in
+    let t = tree-here _ _ _ (start .pre .0) _ (sym (c .before .before .before .before .before .node-at .ensures) ∙ c .before .before .before .node2 .given .1) in
+    let w = c .before .over-children2 .ensures in
+    record { deep = rw t (c .above5 .ensures .0 ∙ one-deeper _ _ (w .deep)); long = rw t (c .above5 .ensures .1 ∙ one-more _ _ (w .long)) }
+
+returns-6 : tie.Need-returns-6
+unfolding treeBy meant depth visited Fine
+returns-6 c =
     let start = c .before .before .before .before .before .before .before .before .before in
     let e = sym (c .before .before .before .before .before .before .before .node-at .ensures) ∙ c .before .before .before .before .before .node3 .given .1 in
     let f = fine-here _ _ _ (start .pre .0) _ e in
@@ -174,8 +187,8 @@ returns-5 c =
     let d = start .pre .1 .deep (l .body) (f .2) in
     let v = start .pre .1 .long (l .body) (f .2) in
     record {
-      deep = rw t (c .above5 .ensures .0 ∙ one-deeper _ _ d);
-      long = rw t (c .above5 .ensures .1 ∙ one-more _ _ (rw v (cap-times 100001 (l .greatest) _)));
+      deep = rw t (c .above6 .ensures .0 ∙ one-deeper _ _ d);
+      long = rw t (c .above6 .ensures .1 ∙ one-more _ _ (rw v (cap-times 100001 (l .greatest) _)));
     }
 
 pub weight-of-spec : {M : Type 1} → statement M
@@ -187,21 +200,24 @@ weight-of-spec =
     above-requires
     enum-told-2
     above-requires-2
+    enum-told-3
+    above-requires-3
     enum-known-node
     over-children-requires
-    above-requires-3
+    above-requires-4
     enum-known-node-2
     over-children-requires-2
-    above-requires-4
-    enum-known-node-3
-    mul-t16
-    element-copy-out-t19
-    mul-t20
-    element-copy-out-t23
-    mul-t24
     above-requires-5
+    enum-known-node-3
+    mul-t17
+    element-copy-out-t20
+    mul-t21
+    element-copy-out-t24
+    mul-t25
+    above-requires-6
     returns
     returns-2
     returns-3
     returns-4
-    returns-5)
+    returns-5
+    returns-6)
