@@ -10,7 +10,7 @@ ghost use Rattle.figure.specs.Reading.{afterRead, Held};
 use libc::STDERR_FILENO;
 use libc::STDIN_FILENO;
 use libc::STDOUT_FILENO;
-use lines::Written;
+use text::Written;
 
 // How far the input is read: so many bytes of it, and more may come; all of it, or as much as the buffer holds; or a read failed.
 enum Input {

@@ -11,10 +11,10 @@ use Rattle.figures.specs.declared.Answer.{Answer}
 use Rattle.figures.specs.declared.Answer.the-variants.{Given, Refused}
 use Rattle.figures.specs.Answers.{Result, resultOf, answer, tableAfter}
 use Rattle.figures.specs.Promise.{Equal}
-use Rattle.lines.specs.declared.Written.{Written}
-use Rattle.lines.specs.Text.{figureLines}
-use Rattle.lines.specs.Buffer.{listed, refusedListed, figuresListed}
-use Rattle.lines.proofs.Answers.{figures-listed}
+use Rattle.text.specs.declared.Written.{Written}
+use Rattle.text.specs.Text.{figureLines}
+use Rattle.text.specs.Buffer.{listed, refusedListed, figuresListed}
+use Rattle.text.proofs.Answers.{figures-listed}
 use Rattle.listing.specs.Listings.{linesOf, lent, listingOf}
 
 module _ (s table : List ℕ) (a : Answer) (e : Equal s lent a table) (out : List ℕ) where

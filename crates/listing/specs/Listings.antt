@@ -4,7 +4,7 @@ use lib.ListN.{replicate}
 use Prim.Native.Nat.{ℕ}
 use Rattle.runs.specs.Figures.{noTime}
 use Rattle.figures.specs.Answers.{Result, given, refused, answer, tableAfter}
-use Rattle.lines.specs.Text.{refusedLine, figureLines}
+use Rattle.text.specs.Text.{refusedLine, figureLines}
 
 -- the lines of an answer and its table of 256 places: a refusal, or the figures, the count and each place that holds a time
 abbrev pub linesOf : Result → List ℕ → List ℕ

@@ -4,10 +4,10 @@
 // and the buffer at entry: the listing of specs/Listings.antt at the buffer's start and the rest unchanged, or, where the buffer has
 // fewer than 8,192 bytes, `Short` and no change. The program above it only reads and writes.
 ghost use mathlib.Core.Path.{_≡_};
-ghost use Rattle.lines.specs.Buffer.{listed};
+ghost use Rattle.text.specs.Buffer.{listed};
 ghost use Rattle.listing.specs.Listings.{listingOf};
 use figures::Answer;
-use lines::Written;
+use text::Written;
 
 pub fn listing(image: &[u8], out: &mut [u8]) -> Written
     ensures { λ r. ⌜ listed (listingOf (now (image .entry))) (now (out .entry)) ≡ (r, now (out .exit)) ⌝ }
@@ -15,11 +15,7 @@ pub fn listing(image: &[u8], out: &mut [u8]) -> Written
     let mut table = [18446744073709551615u64; 256];
     let answer = figures::figures(image, &mut table);
     match answer {
-        Answer::Refused(r, place) => lines::list_refused(
-            image::number(r) as u64,
-            place as u64,
-            out,
-        ),
-        Answer::Given(f) => lines::list_figures(f.tight, f.published, f.exits, 256, &table, out),
+        Answer::Refused(r, place) => text::list_refused(image::number(r) as u64, place as u64, out),
+        Answer::Given(f) => text::list_figures(f.tight, f.published, f.exits, 256, &table, out),
     }
 }

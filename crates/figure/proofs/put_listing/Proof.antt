@@ -1,7 +1,7 @@
 -- The listing is no longer than the buffer, so its part of the buffer may be written.
 use mathlib.Core.Path.{sym}
 use lib.Seq.{length-take-le}
-use Rattle.lines.proofs.Answers.{listed-read, read-within}
+use Rattle.text.proofs.Answers.{listed-read, read-within}
 use borrow.Author.Needs.{needs}
 use Rattle.figure.proofs.put_listing.Statement.{statement}
 use Rattle.figure.proofs.put_listing.Tie as tie
