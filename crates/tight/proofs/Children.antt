@@ -17,7 +17,7 @@ use Rattle.image.proofs.Levels.{visits-step}
 use Rattle.image.specs.declared.Task.{Task}
 use Rattle.times.specs.Arrays.{tableOf, Joined}
 use Rattle.tight.specs.Steps.{sizeOf, table, Stepped, after, afterAll, afterAny, Roomy, Ready}
-use Rattle.tight.proofs.Tables.{joined-at}
+use Rattle.iterations.proofs.Exits.{joined-at}
 use Rattle.tight.proofs.Rooms.{room-less, room-after}
 
 module _ (s : List ℕ) (k : Task) (places : List ℕ) (w : Walkable s k places) (node : ℕ) (low : node ≤ k .entry)

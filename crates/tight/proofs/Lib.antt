@@ -4,5 +4,4 @@ pub mod Parts
 pub mod Children
 pub mod Descents
 pub mod Leaves
-pub mod Watching
 pub mod Loops

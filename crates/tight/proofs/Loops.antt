@@ -13,7 +13,7 @@ use Rattle.runs.specs.Parts.{Unrolled, shifted}
 use Rattle.runs.proofs.Cases.{split}
 use Rattle.runs.proofs.Joins.{longer-joins}
 use Rattle.runs.proofs.Loops.{unrolled-none, unrolled-one, unrolled-both}
-use Rattle.runs.proofs.Shifted.{shifted-zero, multiple, cycles-skip}
+use Rattle.runs.proofs.Shifted.{shifted-zero, multiple, cycles-skip, times-shifted}
 use Rattle.image.specs.Nodes.{treeAt}
 use Rattle.image.specs.Walks.{Walkable}
 use Rattle.image.specs.declared.Task.{Task}
@@ -23,10 +23,14 @@ use Rattle.times.specs.Arrays.{tableOf, Shifted, Fits}
 use Rattle.cycles.specs.Cycles.{Jumps}
 use Rattle.cycles.specs.declared.Watch.{Watch}
 use Rattle.cycles.proofs.Watching.{goes-none, goes-one, goes-both, whole, skips-small, skips-watches, skips-ends}
-use Rattle.tight.specs.Steps.{sizeOf, table, after, Stepped, Roomy, Walked, Ready, ReadyRepeat, ReadyLoop, BegunAt, TurnedAt, UnrolledAt, WatchedBy, SkippedBy, KeptBy, Unrolls}
+use Rattle.iterations.specs.Iterations.{WatchedBy, SkippedBy, KeptBy}
+use Rattle.tight.specs.Steps.{sizeOf, table, after, Stepped, Roomy, Walked, Ready, ReadyRepeat, ReadyLoop, BegunAt, TurnedAt, UnrolledAt, Unrolls}
 use Rattle.tight.proofs.Rooms.{room-less, room-fits, room-times}
 use Rattle.tight.proofs.Parts.{as-loop}
-use Rattle.tight.proofs.Watching.{commutes}
+
+-- the walk of a body commutes with more cycles at every time
+commutes : (k : Task) (x : Tree) (q : ℕ) (T : List Time) → after k x (shifted q T) ≡ shifted q (after k x T)
+commutes k x q T = times-shifted _ _ q x T
 
 -- ---- parts of an unrolled loop
 
@@ -105,7 +109,7 @@ module _ (s : List ℕ) (k : Task) (places : List ℕ) (body left : ℕ) (w : Wa
         size-out = size;
         size-old = seen .size;
         unrolled = rw one (unrolled-one none longer longer-joins (sizeOf k) (after k x) least (w .done) _ _ _ _ _ (step .steps) turned);
-        watches = seen .watches k x (sym is) cur (r .watches) (step .steps);
+        watches = WatchedBy.watches (rw is at seen) (after k x) (commutes k x) (table k cur) (r .watches) (step .steps);
       }
 
 -- two parts

@@ -15,7 +15,8 @@ use Rattle.runs.proofs.Meanings.{row-at}
 use Rattle.runs.proofs.Joins.{row-same, longer-joins}
 use Rattle.image.specs.declared.Task.{Task}
 use Rattle.times.specs.Arrays.{noTime, timeOf, tableOf, Joined}
-use Rattle.tight.specs.Steps.{sizeOf, table, Empty, BegunAt, TurnedAt}
+use Rattle.iterations.specs.Iterations.{BegunBy, TurnedBy}
+use Rattle.tight.specs.Steps.{sizeOf, table, BegunAt, TurnedAt}
 
 pub table-at : (k : Task) (t : List ℕ) (o : ℕ) → o < sizeOf k → getD (table k t) o none ≡ timeOf (getD t o 0)
 unfolding tableOf
@@ -25,50 +26,11 @@ pub table-is : (k : Task) (r : List ℕ) (f : ℕ → Time) → ((o : ℕ) → o
 unfolding tableOf
 table-is k r f h = row-same (sizeOf k) _ f (λ o l. sym (row-at (sizeOf k) (λ o. timeOf (getD r o 0)) o none l) ∙ h o l)
 
--- ---- the array of no times, and joins
-
-pub nothing : (n m : ℕ) → n ≤ m → Empty n (replicate m noTime)
-unfolding tableOf timeOf
-nothing n m h = record {
-  size = omega (arith, length-replicate m noTime);
-  none-at = λ o l.
-      row-at n (λ o. timeOf (getD (replicate m noTime) o 0)) o none l ∙ ap timeOf (getD-replicate m o noTime 0 (omega arith));
-}
-
-pub joined-at : (n : ℕ) (a b r : List ℕ) → Joined n a b r → (o : ℕ) → o < n
-    → getD (tableOf n r) o none ≡ longer (getD (tableOf n a) o none) (getD (tableOf n b) o none)
-joined-at n a b r j o h = ap (λ (T : List Time). getD T o none) j ∙ row-at n _ o none h
-
--- ---- what the unroller starts from, and one iteration
+-- ---- between iterations: n is the number of places
 
 module _ (k : Task) (n : ℕ) (is : sizeOf k ≡ n) where
-  pub begun-entry : (least : ℕ) (t out : List ℕ) → least ≡ 0 → tableOf n out ≡ tableOf n t → BegunAt k least t out
-  begun-entry least t out e j = record {
-    cur = refl;
-    out = λ o h.
-        ap (λ (T : List Time). getD T o none) (rw (← is) at j)
-        ∙ ap (λ (z : Bool). cond z (getD (table k t) o none) none) (sym (le-leb least 0 (omega arith)));
-  }
+  pub begun-at : (least : ℕ) (t out : List ℕ) → BegunBy n least t out → BegunAt k least t out
+  begun-at least t out b = rw is b
 
-  pub begun-nothing : (least : ℕ) (t out : List ℕ) → 0 < least → Empty n out → BegunAt k least t out
-  begun-nothing least t out l e = record {
-    cur = refl;
-    out = λ o h. rw (← is) at (e .none-at o (omega arith)) ∙ ap (λ (z : Bool). cond z (getD (table k t) o none) none) (sym (lt-leb least 0 l));
-  }
-
-  module _ (least done : ℕ) (out next : List ℕ) where
-    pub turned-joined : (both : List ℕ) → least ≤ done + 1 → Joined n out next both → TurnedAt k least done out next both
-    turned-joined both l j = record {
-      cur = refl;
-      out = λ o h.
-          joined-at (sizeOf k) out next both (rw is j) o h
-          ∙ ap (λ (z : Bool). longer (getD (table k out) o none) (cond z (getD (table k next) o none) none)) (sym (le-leb least (done + 1) l));
-    }
-
-    pub turned-only : done + 1 < least → TurnedAt k least done out next out
-    turned-only l = record {
-      cur = refl;
-      out = λ o h.
-          sym (longer-joins .right _)
-          ∙ ap (λ (z : Bool). longer (getD (table k out) o none) (cond z (getD (table k next) o none) none)) (sym (lt-leb least (done + 1) l));
-    }
+  pub turned-at : (least done : ℕ) (out next out' : List ℕ) → TurnedBy n least done out next out' → TurnedAt k least done out next out'
+  turned-at least done out next out' b = rw is b

@@ -10,18 +10,19 @@ use Rattle.runs.specs.Clock.{withLines}
 use Rattle.runs.specs.Nodes.{Tree, Trees, visits, visitsAll}
 use Rattle.runs.specs.Carried.{carriedAll, carriedAny}
 use Rattle.runs.specs.Figures.{Time, longer, later, times}
-use Rattle.runs.specs.Parts.{Begun, Turned, Unrolled, shifted}
+use Rattle.runs.specs.Parts.{Unrolled, shifted}
 use Rattle.bus.specs.declared.Bus.{Bus}
 use Rattle.bus.specs.Waits.{slotsOf, Ranges}
 use Rattle.image.specs.Nodes.{treeAt, childTrees}
 use Rattle.image.specs.Walks.{Walkable, Named}
 use Rattle.image.specs.declared.Task.{Task}
 use Rattle.image.specs.declared.nodes.Loop.{Loop}
-use Rattle.times.specs.Arrays.{tableOf, Fits, Shifted}
+use Rattle.times.specs.Arrays.{tableOf, Fits}
 use Rattle.lined.specs.Lined.{Numbers, SteppedAll}
 use Rattle.lined.specs.declared.Step.the-variants.{Plain, Always}
-use Rattle.cycles.specs.Cycles.{Small, Counts, Goes, Skips, Watches}
+use Rattle.cycles.specs.Cycles.{Small, Goes, Watches}
 use Rattle.cycles.specs.declared.Watch.{Watch}
+use Rattle.iterations.specs.Iterations.{BegunBy, TurnedBy}
 
 -- how many places a task's tables have: a row of a period for each set of lines
 abbrev pub sizeOf : Task → ℕ
@@ -103,19 +104,14 @@ pub record ReadyRepeat (s : List ℕ) (k : Task) (places : List ℕ) (node : ℕ
   pub size : sizeOf k ≤ length t
   pub room : Roomy k (65535 * (l .greatest * visits (treeAt s (l .body)))) (table k t)
 
--- an array of n places that holds no time, and one for n places
-pub record Empty (n : ℕ) (out : List ℕ) : Type 0 where
-  pub size : n ≤ length out
-  pub none-at : (o : ℕ) → o < n → getD (tableOf n out) o none ≡ none
-
 -- ---- loops
 
 -- the unroller's tables: the exits before the first iteration, those after one more, and all after n more
 abbrev pub BegunAt : Task → ℕ → List ℕ → List ℕ → Type 0
-BegunAt k least t out = Begun none longer (sizeOf k) least (table k t) (table k t) (table k out)
+BegunAt k least t out = BegunBy (sizeOf k) least t out
 
 abbrev pub TurnedAt : Task → ℕ → ℕ → List ℕ → List ℕ → List ℕ → Type 0
-TurnedAt k least done out next out' = Turned none longer (sizeOf k) least done (table k out) (table k next) (table k next) (table k out')
+TurnedAt k least done out next out' = TurnedBy (sizeOf k) least done out next out'
 
 abbrev pub UnrolledAt : Task → Tree → ℕ → ℕ → ℕ → List ℕ → List ℕ → List ℕ → List ℕ → Type 0
 UnrolledAt k body least done n cur out cur' out' =
@@ -124,24 +120,6 @@ UnrolledAt k body least done n cur out cur' out' =
 -- what is seen of a loop is true of the table now and of the kept one
 abbrev pub WatchesAt : Task → Tree → List ℕ → List ℕ → Watch → Type 0
 WatchesAt k x cur old w = Watches (after k x) shifted (table k cur) (table k old) w
-
--- one more iteration, which led to `cur`, is seen, for every task with tables of n places and for every tree
-pub record WatchedBy (n : ℕ) (cur old : List ℕ) (w : Watch) (old' : List ℕ) (r : Watch) : Type 0 where
-  pub counts : Counts w r
-  pub size : length old' ≡ length old
-  pub watches : (k : Task) (x : Tree) → sizeOf k ≡ n → (before : List ℕ) → WatchesAt k x before old w → Stepped k x before cur
-      → WatchesAt k x cur old' r
-
--- m whole cycles of `left` iterations are skipped
-pub record SkippedBy (n left : ℕ) (w : Watch) (cur cur' : List ℕ) (r : Watch) : Type 0 where
-  pub size : length cur' ≡ length cur
-  pub skips : (m : ℕ) × Skips left w m r × Shifted n cur (m * w .gain) cur'
-
--- what is kept before the first iteration: the entry, or nothing where the span is 0
-pub record KeptBy (n : ℕ) (t old old' : List ℕ) (span : ℕ) : Type 0 where
-  pub size : length old' ≡ length old
-  pub few : span ≤ 1
-  pub kept : 1 ≤ span → tableOf n old' ≡ tableOf n t
 
 -- `left` iterations of a loop's body are to come
 pub record ReadyLoop (s : List ℕ) (k : Task) (places : List ℕ) (body left : ℕ) (w : Watch) (cur out old : List ℕ) : Type 0 where

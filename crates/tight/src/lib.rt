@@ -13,10 +13,9 @@ ghost use lib.ListN.{length};
 ghost use Prim.Native.Nat.{_+_, _≤_, _<_};
 ghost use Rattle.image.specs.Nodes.{treeAt, childTrees, kindMeant};
 ghost use Rattle.image.specs.declared.Task.{Task};
-ghost use Rattle.times.specs.Arrays.{Fits};
 ghost use Rattle.runs.specs.Nodes.{Tree};
-ghost use Rattle.cycles.specs.Cycles.{Small};
-ghost use Rattle.tight.specs.Steps.{sizeOf, table, afterAll, Walked, Sized, PlainReady, BusReady, OnceReady, Ready, ReadyAll, ReadyRepeat, Empty, ReadyLoop, BegunAt, TurnedAt, WatchedBy, SkippedBy, KeptBy, Unrolls, Branched};
+ghost use Rattle.iterations.specs.Iterations.{Empty};
+ghost use Rattle.tight.specs.Steps.{sizeOf, table, afterAll, Walked, Sized, PlainReady, BusReady, OnceReady, Ready, ReadyAll, ReadyRepeat, ReadyLoop, Unrolls, Branched};
 use cycles::Watch;
 use image::Task;
 use image::nodes::BusBlock;
@@ -63,71 +62,6 @@ fn once_block(k: Task, x: Once, t: &mut [u64])
 {
     let weight = image::fetched::power(x.line);
     lined::once(k.bus, x.lowest, x.highest, x.hit, weight, k.sets, t);
-}
-
-// The exits before the first iteration: the entry's own where 0 is a permitted count, and else none.
-fn before_first(n: usize, least: usize, t: &[u64], out: &mut [u64])
-    requires { ⌜ (n ≤ length (now t)) × Empty n (now out) ⌝ }
-    ensures { λ _. ⌜ (length (now (out .exit)) ≡ length (now (out .entry))) × ((k : Task) → sizeOf k ≡ n → BegunAt k least (now (t .entry)) (now (out .exit))) ⌝ }
-{
-    if least == 0 {
-        times::copy(out, t, n);
-    }
-}
-
-// What is kept before the first iteration, and for how many: the entry, for one, but where at most one iteration is to come nothing is kept.
-fn kept(n: usize, greatest: usize, t: &[u64], old: &mut [u64]) -> usize
-    requires { ⌜ (n ≤ length (now t)) × (n ≤ length (now old)) ⌝ }
-    ensures { λ r. ⌜ KeptBy n (now (t .entry)) (now (old .entry)) (now (old .exit)) r ⌝ }
-{
-    if greatest <= 1 {
-        return 0;
-    }
-    times::copy(old, t, n);
-    1
-}
-
-// The exits after one more iteration, which left the times `next`.
-fn joined(n: usize, least: usize, done: usize, next: &[u64], out: &mut [u64])
-    requires { ⌜ (done ≤ 10000) × (n ≤ length (now next)) × (n ≤ length (now out)) ⌝ }
-    ensures { λ _. ⌜ (length (now (out .exit)) ≡ length (now (out .entry))) × ((k : Task) → sizeOf k ≡ n → TurnedAt k least done (now (out .entry)) (now (next .entry)) (now (out .exit))) ⌝ }
-{
-    if least <= done + 1 {
-        times::join(out, next, n);
-    }
-}
-
-// What is seen after one more iteration, which left the times `cur`: a cycle where these are the kept ones, all later by one gain.
-fn watched(n: usize, cur: &[u64], old: &mut [u64], w: Watch) -> Watch
-    requires { ⌜ (n ≤ length (now cur)) × (n ≤ length (now old)) × (w .done ≤ 9999) × Small w ⌝ }
-    ensures { λ r. ⌜ WatchedBy n (now (cur .entry)) (now (old .entry)) w (now (old .exit)) r ⌝ }
-{
-    if w.span == 0 {
-        return cycles::seen(w, false, 0);
-    }
-    let gain = times::rise(old, cur, n);
-    let same = times::is_later(old, cur, n, gain);
-    let r = cycles::seen(w, same, gain);
-    if r.gap == 0 {
-        times::copy(old, cur, n);
-    }
-    r
-}
-
-// Of the `left` iterations to come whole cycles are skipped; what is left then is only walked.
-fn skipped(size: usize, left: usize, w: Watch, cur: &mut [u64]) -> Watch
-    requires { ⌜ (size ≤ length (now cur)) × (w .done + left ≤ 10000) × Small w × Fits size (now cur) ⌝ }
-    ensures { λ r. ⌜ SkippedBy size left w (now (cur .entry)) (now (cur .exit)) r ⌝ }
-{
-    let n = cycles::jumps(w.cycle, left);
-    times::all_later(cur, size, n * w.gain);
-    Watch {
-        done: w.done + n * w.cycle,
-        gap: 0,
-        span: 0,
-        cycle: 0,
-        gain: 0,
-    }
 }
 
 // The times after a node.
@@ -260,8 +194,8 @@ fn turns(
     ensures { λ _. ⌜ Walked k (Tree.loop (l .least) (l .greatest) (treeAt (now (image .entry)) (l .body))) (now (t .entry)) (now (t .exit)) ⌝ }
 {
     let n = size(k);
-    before_first(n, l.least, t, out);
-    let span = kept(n, l.greatest, t, old);
+    iterations::before_first(n, l.least, t, out);
+    let span = iterations::kept(n, l.greatest, t, old);
     let begun = Watch {
         done: 0,
         gap: 0,
@@ -282,7 +216,7 @@ fn turns(
         old,
     );
     let left = l.greatest - seen.done;
-    let rest = skipped(n, left, seen, t);
+    let rest = iterations::skipped(n, left, seen, t);
     unroll(
         image,
         places,
@@ -322,8 +256,8 @@ fn unroll(
     }
     if left == 1 {
         walk(image, places, k, body, cur);
-        joined(size(k), least, w.done, cur, out);
-        return watched(size(k), cur, old, w);
+        iterations::joined(size(k), least, w.done, cur, out);
+        return iterations::watched(size(k), cur, old, w);
     }
     let half = left / 2;
     let a = unroll(image, places, k, body, least, half, w, cur, out, old);

@@ -11,7 +11,8 @@ use Rattle.runs.proofs.Joins.{longer-joins}
 use Rattle.image.specs.Nodes.{treeAt, childTrees}
 use Rattle.image.proofs.Walks.{all-done, any-done}
 use Rattle.tight.specs.Steps.{sizeOf, table, afterAll, afterAny, Roomy}
-use Rattle.tight.proofs.Tables.{nothing}
+use Rattle.iterations.proofs.Exits.{nothing}
+use Rattle.tight.proofs.Tables.{begun-at, turned-at}
 use Rattle.tight.proofs.Children.{child-low, child-ready, copied-ready, copied-step, rest-room as child-rest-room, rest-same-room, next-in-order, next-arm}
 use Rattle.tight.proofs.Descents.{sized, wide-size, narrow-size, in-image, in-places, plain-ready, plain-done, block-ready, block-done, once-ready, once-done, sequence-ready, sequence-done, branch-ready, branch-done, repeat-ready, repeat-done}
 use Rattle.tight.proofs.Loops.{one-ready, half-ready, other-ready, none-unrolls, one-unrolls, both-unroll, begun-ready, seen-few, seen-ready, seen-fits, seen-long, skip-few, rest-ready, ends-long, repeat-steps}
@@ -49,15 +50,15 @@ use Rattle.tight.proofs.wide_repeat.Kinds as wide-repeat-kinds
 use Rattle.tight.proofs.+arms+branch+repeat+sequence+turns+unroll+walk+wide_branch+wide_repeat.Lts-wide_repeat as wide-repeat-lts
 use Rattle.image.proofs.nodes.node_at.Reads as node-at-reads
 use Rattle.image.proofs.read.word.Reads as word-reads
-use Rattle.tight.proofs.before_first.Reads as before-first-reads
+use Rattle.iterations.proofs.before_first.Reads as before-first-reads
 use Rattle.tight.proofs.bus_block.Reads as bus-block-reads
-use Rattle.tight.proofs.joined.Reads as joined-reads
-use Rattle.tight.proofs.kept.Reads as kept-reads
+use Rattle.iterations.proofs.joined.Reads as joined-reads
+use Rattle.iterations.proofs.kept.Reads as kept-reads
 use Rattle.tight.proofs.once_block.Reads as once-block-reads
 use Rattle.tight.proofs.plain_block.Reads as plain-block-reads
 use Rattle.tight.proofs.size.Reads as size-reads
-use Rattle.tight.proofs.skipped.Reads as skipped-reads
-use Rattle.tight.proofs.watched.Reads as watched-reads
+use Rattle.iterations.proofs.skipped.Reads as skipped-reads
+use Rattle.iterations.proofs.watched.Reads as watched-reads
 use Rattle.times.proofs.copy.Reads as copy-reads
 use Rattle.times.proofs.join.Reads as join-reads
 use Rattle.tight.proofs.+arms+branch+repeat+sequence+turns+unroll+walk+wide_branch+wide_repeat.{
@@ -547,7 +548,7 @@ turns-returns : (t : ℕ) → turns-lts.Need-returns (turns-claims t) (turns-at 
 turns-returns t c =
     let a = c .before .before .before .before .before .before .before .before .before .before .before .before .before .before .before .before .before .before .before .before .before .before .before .before .before .before .before .before .before .before .before .before .before .before .before .before .before .before .before .before .before .before .before .before .before .before .before .before .args in
     let p = c .before .before .before .before .before .before .before .before .before .before .before .before .before .before .before .before .before .before .before .before .before .before .before .before .before .before .before .before .before .before .before .before .before .before .before .before .before .before .before .before .before .before .before .before .before .before .before .before .pre .1 in
-    repeat-steps (a .image .now) (a .k) (a .places .now) (a .node) (a .l) (a .t .now) (p .0) (a .out .now) _ (a .old .now) _ (c .before .before .before .before .before .before .before .before .before .before .before .before .before .before .before .before .before .before .before .before .before .before .before .before .before .before .before .before .before .before .before .before .before .before .before .kept .result) (p .1 .size) (c .before .before .before .before .before .before .before .before .before .before .before .before .before .before .before .before .before .before .before .before .before .before .before .before .before .before .before .before .before .before .before .before .before .before .before .before .before .before .before .before .before-first .ensures .0) (p .2) (c .before .before .before .before .before .before .before .before .before .before .before .before .before .before .before .before .before .before .before .before .before .before .before .before .before .before .before .before .before .before .before .before .before .before .before .before .before .before .before .before .before .before .before .size .result) (c .before .before .before .before .before .before .before .before .before .before .before .before .before .before .before .before .before .before .before .before .before .before .before .before .before .before .before .before .before .before .before .before .before .before .before .before .before .before .before .before .before .before .before .size .ensures) (c .before .before .before .before .before .before .before .before .before .before .before .before .before .before .before .before .before .before .before .before .before .before .before .before .before .before .before .before .before .before .before .before .before .before .before .kept .ensures) _ _ _ _ (c .before .before .before .before .before .before .before .before .before .before .before .before .before .before .before .before .before .before .before .before .before .before .before .before .before .before .before .before .before .unroll .ensures) _ _ (c .before .before .before .before .before .before .before .before .before .before .before .before .before .before .before .before .before .before .before .skipped .ensures) _ _ _ _ _ (c .before .before .before .before .before .before .before .before .before .before .before .before .before .before .before .before .before .before .before .before .before .before .before .before .before .before .before .before .before .before .before .before .before .before .before .before .before .before .before .before .before-first .ensures .1 (a .k) (sym (c .before .before .before .before .before .before .before .before .before .before .before .before .before .before .before .before .before .before .before .before .before .before .before .before .before .before .before .before .before .before .before .before .before .before .before .before .before .before .before .before .before .before .before .size .ensures))) (c .before .before .before .before .before .before .before .before .before .before .before .unroll2 .ensures) (c .before .before .copy .ensures .0) (c .before .before .copy .ensures .1)
+    repeat-steps (a .image .now) (a .k) (a .places .now) (a .node) (a .l) (a .t .now) (p .0) (a .out .now) _ (a .old .now) _ (c .before .before .before .before .before .before .before .before .before .before .before .before .before .before .before .before .before .before .before .before .before .before .before .before .before .before .before .before .before .before .before .before .before .before .before .kept .result) (p .1 .size) (c .before .before .before .before .before .before .before .before .before .before .before .before .before .before .before .before .before .before .before .before .before .before .before .before .before .before .before .before .before .before .before .before .before .before .before .before .before .before .before .before .before-first .ensures .0) (p .2) (c .before .before .before .before .before .before .before .before .before .before .before .before .before .before .before .before .before .before .before .before .before .before .before .before .before .before .before .before .before .before .before .before .before .before .before .before .before .before .before .before .before .before .before .size .result) (c .before .before .before .before .before .before .before .before .before .before .before .before .before .before .before .before .before .before .before .before .before .before .before .before .before .before .before .before .before .before .before .before .before .before .before .before .before .before .before .before .before .before .before .size .ensures) (c .before .before .before .before .before .before .before .before .before .before .before .before .before .before .before .before .before .before .before .before .before .before .before .before .before .before .before .before .before .before .before .before .before .before .before .kept .ensures) _ _ _ _ (c .before .before .before .before .before .before .before .before .before .before .before .before .before .before .before .before .before .before .before .before .before .before .before .before .before .before .before .before .before .unroll .ensures) _ _ (c .before .before .before .before .before .before .before .before .before .before .before .before .before .before .before .before .before .before .before .skipped .ensures) _ _ _ _ _ (begun-at (a .k) _ (sym (c .before .before .before .before .before .before .before .before .before .before .before .before .before .before .before .before .before .before .before .before .before .before .before .before .before .before .before .before .before .before .before .before .before .before .before .before .before .before .before .before .before .before .before .size .ensures)) _ _ _ (c .before .before .before .before .before .before .before .before .before .before .before .before .before .before .before .before .before .before .before .before .before .before .before .before .before .before .before .before .before .before .before .before .before .before .before .before .before .before .before .before .before-first .ensures .1)) (c .before .before .before .before .before .before .before .before .before .before .before .unroll2 .ensures) (c .before .before .copy .ensures .0) (c .before .before .copy .ensures .1)
 
 -- ---- unroll
 
@@ -601,7 +602,7 @@ unroll-returns-3 t c =
     let p = c .before .before .before .before .before .before .before .before .before .before .before .before .before .before .before .before .before .before .before .before .before .before .before .before .pre .1 in
     let none-yet : a .w .cycle ≡ 0 = omega (arith, c .before .before .before .before .before .before .before .before .before .before .before .before .before .before .before .before .before .if2 .left) in
     one-unrolls (a .image .now) (a .k) (a .places .now) (a .body) (a .left) (a .w) (a .cur .now) (a .out .now) (a .old .now) p (a .least) (c .before .before .before .before .before .before .before .before .before .before .before .before .before .before .before .before .if3 .taken) none-yet _ _ _ _ (c .before .before .before .before .before .before .before .before .before .before .before .before .before .before .walk .ensures) (c .before .before .before .before .before .before .before .before .joined .ensures .0)
-    (c .before .before .before .before .before .before .before .before .joined .ensures .1 (a .k) (sym (c .before .before .before .before .before .before .before .before .before .before .before .size .ensures))) _ (c .before .before .before .before .before .size2 .ensures) (c .before .before .watched .ensures)
+    (turned-at (a .k) _ (sym (c .before .before .before .before .before .before .before .before .before .before .before .size .ensures)) _ _ _ _ _ (c .before .before .before .before .before .before .before .before .joined .ensures .1)) _ (c .before .before .before .before .before .size2 .ensures) (c .before .before .watched .ensures)
 
 unroll-unroll-requires : (t : ℕ) → unroll-lts.Need-unroll-requires (unroll-claims t) (unroll-at t) unroll.Post
 unroll-unroll-requires t c κs = let a = c .before .before .before .before .before .before .before .before .before .before .before .args in

@@ -2,8 +2,8 @@
 use mathlib.Core.Path.{refl}
 use native.Mathlib.Omega.{arith}
 use Rattle.cycles.proofs.Watching.{product, whole}
-use Rattle.tight.proofs.skipped.Statement.{statement}
-use Rattle.tight.proofs.skipped.Tie as tie
+use Rattle.iterations.proofs.skipped.Statement.{statement}
+use Rattle.iterations.proofs.skipped.Tie as tie
 
 jumps-requires : tie.Need-jumps-requires
 jumps-requires c κs = omega (arith, c .before .pre .2 .cycle-most, c .before .pre .1)

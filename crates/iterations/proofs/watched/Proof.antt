@@ -2,9 +2,9 @@
 use mathlib.Core.Path.{refl}
 use mathlib.Core.Bool.{false}
 use native.Mathlib.Omega.{arith}
-use Rattle.tight.proofs.Watching.{watched-by, watched-off}
-use Rattle.tight.proofs.watched.Statement.{statement}
-use Rattle.tight.proofs.watched.Tie as tie
+use Rattle.iterations.proofs.Watching.{watched-by, watched-off}
+use Rattle.iterations.proofs.watched.Statement.{statement}
+use Rattle.iterations.proofs.watched.Tie as tie
 
 seen-requires : tie.Need-seen-requires
 seen-requires c κs = (c .before .before .before .before .pre .2, omega arith, c .before .before .before .before .pre .3)

@@ -1,26 +1,16 @@
--- What is seen of a loop stays true from iteration to iteration: the walk of a body commutes with more cycles at every time.
-use mathlib.Core.Path.{_≡_, refl, ap}
+-- What is seen of a loop stays true from iteration to iteration.
+use mathlib.Core.Path.{_≡_, refl}
 use mathlib.Core.Bool.{Bool, true}
 use mathlib.Core.List.{List}
 use lib.ListN.{length}
 use native.Mathlib.Omega.{arith}
-use Prim.Native.Nat.{ℕ, _+_}
-use Rattle.runs.specs.Slots.{periodOf, equal}
-use Rattle.runs.specs.Clock.{withLines}
-use Rattle.runs.specs.Nodes.{Tree}
-use Rattle.runs.specs.Figures.{Time}
+use Prim.Native.Nat.{ℕ}
 use Rattle.runs.specs.Parts.{shifted}
-use Rattle.runs.proofs.Shifted.{times-shifted}
-use Rattle.bus.specs.Waits.{slotsOf}
-use Rattle.image.specs.declared.Task.{Task}
 use Rattle.times.specs.Arrays.{tableOf, Shifted}
 use Rattle.cycles.specs.Cycles.{Seen}
 use Rattle.cycles.specs.declared.Watch.{Watch}
 use Rattle.cycles.proofs.Watching.{watches-next}
-use Rattle.tight.specs.Steps.{sizeOf, table, after, WatchedBy}
-
-pub commutes : (k : Task) (x : Tree) (q : ℕ) (T : List Time) → after k x (shifted q T) ≡ shifted q (after k x T)
-commutes k x q T = times-shifted (equal (slotsOf (k .bus))) (withLines (periodOf (slotsOf (k .bus))) (k .lines)) q x T
+use Rattle.iterations.specs.Iterations.{WatchedBy}
 
 -- what is kept then is `cur` or `old`, by the gap
 pub watched-by : (n : ℕ) (cur old old' : List ℕ) (w : Watch) (same : Bool) (gain : ℕ) (r : Watch) → Seen w same gain r → length old' ≡ length old
@@ -29,9 +19,8 @@ pub watched-by : (n : ℕ) (cur old old' : List ℕ) (w : Watch) (same : Bool) (
 watched-by n cur old old' w same gain r seen size is renewed kept = record {
   counts = seen .counts;
   size = size;
-  watches = λ k x p before h s.
-      watches-next (after k x) shifted (commutes k x) w same gain r seen (table k before) (table k old) (table k cur) (table k old') h s
-      (λ t. rw p (is t)) (λ e. rw p (renewed e)) (λ n. rw p (kept n));
+  watches = λ step commutes before h s.
+      watches-next step shifted commutes w same gain r seen before (tableOf n old) (tableOf n cur) (tableOf n old') h s is renewed kept;
 }
 
 -- once nothing is kept, nothing is looked for
@@ -41,5 +30,5 @@ watched-off n cur old w same gain r e seen =
     record {
       counts = seen .counts;
       size = refl;
-      watches = λ k x p before h s. record { past = λ m. absurd (omega (arith, off .0)); cyclic = λ m. absurd (omega (arith, off .1)) };
+      watches = λ step commutes before h s. record { past = λ m. absurd (omega (arith, off .0)); cyclic = λ m. absurd (omega (arith, off .1)) };
     }

@@ -2,8 +2,8 @@
 use mathlib.Core.Path.{refl}
 use native.Mathlib.Omega.{arith}
 use native.Mathlib.Nat.{not-suc-le-zero}
-use Rattle.tight.proofs.kept.Statement.{statement}
-use Rattle.tight.proofs.kept.Tie as tie
+use Rattle.iterations.proofs.kept.Statement.{statement}
+use Rattle.iterations.proofs.kept.Tie as tie
 
 returns : tie.Need-returns
 returns c = record { size = refl; few = omega arith; kept = λ m. absurd (not-suc-le-zero m) }
