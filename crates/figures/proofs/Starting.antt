@@ -99,6 +99,9 @@ module _ (s : List ℕ) (k : Task) (places : List ℕ) (w : Answerable s k place
     };
   }
 
+  pub some-set : 1 ≤ k .sets
+  some-set = rw (w .walkable .sound .sets-is) (power-pos (k .lines))
+
   -- the rows that the walk starts from, and those that it leaves
   module _ (start t : List ℕ) (n : ℕ) (is : n ≡ P) (e : Started s (k .bus) start) (u : Put (replicate 1024 noTime) 0 n start t) where
     rows-long : sizeOf k ≤ length t
@@ -107,11 +110,14 @@ module _ (s : List ℕ) (k : Task) (places : List ℕ) (w : Answerable s k place
     pub rows-ready : Ready s k places (k .entry) t
     rows-ready = start-ready t rows-long (started-rows start t n is e u)
 
-    pub rows-joins : (x : Tree) (r : List ℕ) → Walked k x t r → Joins (k .bus) (k .sets) r
-    rows-joins x r h = record {
+    -- as many of its rows as there are, or fewer
+    pub rows-joins : (x : Tree) (r : List ℕ) → Walked k x t r → (m : ℕ) → m ≤ k .sets → Joins (k .bus) m r
+    rows-joins x r h m l = record {
       ranges = w .walkable .sound .bus;
-      few = sized s k places (w .walkable) .few;
-      long = rw (w .walkable .sound .sets-is) (omega (arith, h .size, rows-long));
+      few = omega (arith, sized s k places (w .walkable) .few);
+      long =
+          let all : k .sets * busPeriod (k .bus) ≤ length r = rw (w .walkable .sound .sets-is) (omega (arith, h .size, rows-long)) in
+          omega (arith, mul-le-mul-right (busPeriod (k .bus)) l);
     }
 
   pub set-ready : (x : Set) → StartedSet s (k .bus) x → SetReady s k places (k .entry) x

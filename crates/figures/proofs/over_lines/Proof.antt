@@ -1,7 +1,7 @@
 -- The starts are the first row, and the exit times are the rows joined.
 use native.Mathlib.Omega.{arith}
 use borrow.Author.Needs.{needs}
-use Rattle.figures.proofs.Starting.{started-rows, rows-ready, rows-joins, times-ended}
+use Rattle.figures.proofs.Starting.{started-rows, rows-ready, rows-joins, some-set, times-ended}
 use Rattle.figures.proofs.over_lines.Statement.{statement}
 use Rattle.figures.proofs.over_lines.Tie as tie
 
@@ -30,7 +30,7 @@ at-offsets-requires : tie.Need-at-offsets-requires
 at-offsets-requires c κs =
     let a = c .before .before .before .before .before .before .before .before .before .args in
     let p = c .before .before .before .before .before .before .before .before .before .pre .0 in
-    rows-joins (a .image .now) (a .k) (a .places .now) p (a .start .now) _ (c .before .before .before .before .before .before .period .result) (c .before .before .before .before .before .before .period .ensures) (c .before .before .before .before .before .before .before .before .before .pre .1) (c .before .before .before .before .before .put .ensures) _ _ (c .before .before .walk .ensures)
+    rows-joins (a .image .now) (a .k) (a .places .now) p (a .start .now) _ (c .before .before .before .before .before .before .period .result) (c .before .before .before .before .before .before .period .ensures) (c .before .before .before .before .before .before .before .before .before .pre .1) (c .before .before .before .before .before .put .ensures) _ _ (c .before .before .walk .ensures) _ (omega (arith, some-set (a .image .now) (a .k) (a .places .now) p))
 
 returns : tie.Need-returns
 returns c =

@@ -294,7 +294,11 @@ arms-word-requires : (t : ℕ) → arms-lts.Need-word-requires (arms-claims t) (
 arms-word-requires t c κs = let p = c .before .before .before .before .before .before .before .pre .1 .0 in omega (arith, p .named .few, p .named .inside)
 
 arms-copy-requires : (t : ℕ) → arms-lts.Need-copy-requires (arms-claims t) (arms-at t) arms.Post arms-Inv-loop arms-μ-loop
-arms-copy-requires t c κs = let p = c .before .before .before .before .before .before .before .before .before .before .pre .1 in (omega (arith, c .before .before .before .before .before .size .ensures, c .before .before .before .before .loop .inv .2, p .2), omega (arith, c .before .before .before .before .before .size .ensures, p .0 .size))
+arms-copy-requires t c κs =
+    let p = c .before .before .before .before .before .before .before .before .before .before .pre .1 in
+    let n = c .before .before .before .before .before .size .ensures in
+    let l = c .before .before .before .before .loop in
+    (omega (arith, n, l .inv .2, p .2), omega (arith, n, p .0 .size, l .inv .1, p .1 .size))
 
 arms-walk-requires : (t : ℕ) → arms-lts.Need-walk-requires (arms-claims t) (arms-at t) arms.Post arms-Inv-loop arms-μ-loop
 arms-walk-requires t c κs =
