@@ -4,7 +4,7 @@ use mathlib.Core.List.{List, [], _∷_}
 use native.Mathlib.Omega.{arith}
 use native.Mathlib.Nat.{not-suc-le-zero}
 use Prim.Native.Nat.{ℕ, zero, suc, _+_, _*_, _<_, max}
-use Rattle.runs.specs.Nodes.{Node, Tree, trees, treeBy, tree, All, Children, depth, deepest, visits, visitsAll, lineOf, linesTo}
+use Rattle.runs.specs.Nodes.{Node, Tree, trees, treeBy, tree, All, Children, depth, deepest, visits, visitsAll, nodeLines, linesTo}
 use Rattle.runs.proofs.Trees.{tree-is, children-map}
 
 -- the same weight
@@ -62,7 +62,7 @@ module _ (a b : ℕ → Node) (size : ℕ) (falls : (n : ℕ) → n < size → C
   equally n l = equally-below (suc n) n (omega arith) l
 
 -- and they have as many lines
-line-same : (x y : Node) → Alike x y → lineOf x ≡ lineOf y
+line-same : (x y : Node) → Alike x y → nodeLines x ≡ nodeLines y
 line-same _ _ (same x) = refl
 line-same _ _ (plains lo hi lo' hi') = refl
 

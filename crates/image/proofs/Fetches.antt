@@ -6,7 +6,7 @@ use native.Mathlib.Nat.{not-suc-le-zero, le-of-suc-le-suc}
 use native.Mathlib.Omega.{arith}
 use Rattle.runs.proofs.Cases.{split}
 use Rattle.runs.specs.Lines.{power}
-use Rattle.runs.specs.Nodes.{lineOf, linesTo}
+use Rattle.runs.specs.Nodes.{nodeLines, linesTo}
 use Rattle.image.specs.Nodes.{meant, nodeAt, linesOf}
 use Rattle.image.specs.Conditions.{Passed}
 use Rattle.image.specs.Promise.{Fine}
@@ -16,7 +16,7 @@ use Rattle.image.proofs.Passing.{fewer}
 use Rattle.image.proofs.Kept.{node-fine}
 
 -- a good field's line
-pub line-few : (s : List ℕ) (own : ℕ) (x : Node) → Fine s own x → lineOf (meant s x) ≤ 4
+pub line-few : (s : List ℕ) (own : ℕ) (x : Node) → Fine s own x → nodeLines (meant s x) ≤ 4
 unfolding Fine meant
 line-few s own (Plain p) f = omega arith
 line-few s own (Block b) f = omega arith
@@ -30,7 +30,7 @@ unfolding linesTo nodeAt
 lines-few s zero p = omega arith
 lines-few s (suc n) p = omega (arith, lines-few s n (fewer s (n + 2) (suc n + 2) (omega arith) p), line-few s n _ (node-fine s n (p (n + 2) (omega arith))))
 
-pub line-below : (s : List ℕ) (k n : ℕ) → k < n → lineOf (nodeAt s k) ≤ linesOf s n
+pub line-below : (s : List ℕ) (k n : ℕ) → k < n → nodeLines (nodeAt s k) ≤ linesOf s n
 unfolding linesTo
 line-below s k zero h = absurd (not-suc-le-zero h)
 line-below s k (suc n) h =
@@ -38,7 +38,11 @@ line-below s k (suc n) h =
     (λ l. let e : k ≡ n = omega arith in rw e (omega arith))
     (λ l. omega (arith, line-below s k n l))
 
--- so there are at most 16 sets
+-- an image of no lines has no block fetched once
+pub no-lines : (s : List ℕ) (n : ℕ) → linesOf s n ≡ 0 → (k : ℕ) → k < n → nodeLines (nodeAt s k) ≡ 0
+no-lines s n e k h = omega (arith, line-below s k n h)
+
+-- there are at most 16 sets
 pub few-sets : (x : ℕ) → x ≤ 4 → power x ≤ 16
 unfolding power
 few-sets zero h = omega arith

@@ -14,7 +14,7 @@ use Rattle.runs.proofs.Whole.{node-valid}
 use Rattle.bus.specs.Waits.{slotsOf}
 use Rattle.image.specs.Bytes.{byteAt, wordAt}
 use Rattle.image.specs.Nodes.{nodeOf, meant, kindMeant, treeAt, childTrees, taskOf}
-use Rattle.runs.specs.Nodes.{lineOf}
+use Rattle.runs.specs.Nodes.{nodeLines}
 use Rattle.image.specs.Promise.{Fine, Standing}
 use Rattle.image.specs.Walks.{Walkable, Named}
 use Rattle.image.specs.declared.Task.{Task}
@@ -98,7 +98,7 @@ module _ (s : List ℕ) (t : Task) (places : List ℕ) (w : Walkable s t places)
     unfolding meant treeBy Fine
     as-once x e =
         let f = fine-here s n _ here (Once x) e in
-        let l : x .line + 1 ≤ t .lines = rw (w .sound .lines-is, ← ap lineOf (node-here s n _ here (Once x) e)) (line-below s n (t .nodes) (omega (arith, w .sound .last))) in
+        let l : x .line + 1 ≤ t .lines = rw (w .sound .lines-is, ← ap nodeLines (node-here s n _ here (Once x) e)) (line-below s n (t .nodes) (omega (arith, w .sound .last))) in
         (tree-here s n _ here (Once x) e, f .1, f .2, rw (w .sound .bus-is) (f .3), f .4, omega arith)
 
     pub as-sequence : (c : Children) → nodeOf s (getD places n 0) ≡ Sequence c

@@ -2,7 +2,7 @@
 ghost use mathlib.Core.Path.{_≡_};
 ghost use Prim.Native.Nat.{ℕ, _+_, _≤_};
 ghost use Rattle.runs.specs.Lines.{power as powerOf};
-ghost use Rattle.runs.specs.Nodes.{lineOf};
+ghost use Rattle.runs.specs.Nodes.{nodeLines};
 ghost use Rattle.image.specs.Nodes.{meant, nodeOf, linesOf};
 ghost use Rattle.image.specs.Conditions.{Passed};
 ghost use Rattle.image.specs.Promise.{Standing};
@@ -14,7 +14,7 @@ use crate::weigh::larger;
 // One more than the line number of the node whose field stands at a place, or 0 where it has none.
 fn line_at(image: &[u8], at: usize) -> usize
     requires { ⌜ ((n : ℕ) × Standing (now image) n at) ⌝ }
-    ensures { λ r. ⌜ r ≡ lineOf (meant (now (image .entry)) (nodeOf (now (image .entry)) at)) ⌝ }
+    ensures { λ r. ⌜ r ≡ nodeLines (meant (now (image .entry)) (nodeOf (now (image .entry)) at)) ⌝ }
 {
     let node = node_at(image, at);
     match node {

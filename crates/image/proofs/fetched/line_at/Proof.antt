@@ -4,7 +4,7 @@ use mathlib.Core.List.{List}
 use native.Mathlib.Omega.{arith}
 use borrow.Author.Needs.{needs}
 use Prim.Native.Nat.{ℕ}
-use Rattle.runs.specs.Nodes.{lineOf}
+use Rattle.runs.specs.Nodes.{nodeLines}
 use Rattle.image.specs.Nodes.{meant, nodeOf}
 use Rattle.image.specs.Promise.{Fine}
 use Rattle.image.specs.declared.nodes.Node.{Node}
@@ -13,8 +13,8 @@ use Rattle.image.proofs.fetched.line_at.Statement.{statement}
 use Rattle.image.proofs.fetched.line_at.Tie as tie
 
 -- the line of the node that was read
-told : (s : List ℕ) (at : ℕ) (node x : Node) → node ≡ nodeOf s at → node ≡ x → lineOf (meant s x) ≡ lineOf (meant s (nodeOf s at))
-told s at node x read is = ap (λ (y : Node). lineOf (meant s y)) (sym is ∙ read)
+told : (s : List ℕ) (at : ℕ) (node x : Node) → node ≡ nodeOf s at → node ≡ x → nodeLines (meant s x) ≡ nodeLines (meant s (nodeOf s at))
+told s at node x read is = ap (λ (y : Node). nodeLines (meant s y)) (sym is ∙ read)
 
 node-at-requires : tie.Need-node-at-requires
 node-at-requires c κs = let (n, here) = c .before .pre in inside-here _ n _ here

@@ -4,7 +4,7 @@ use native.Mathlib.Omega.{arith}
 use native.Mathlib.Numerals.{add-one}
 use borrow.Author.Needs.{needs}
 use Prim.Native.Nat.{ℕ, _+_, _-_, _≤_, max}
-use Rattle.runs.specs.Nodes.{lineOf, linesTo}
+use Rattle.runs.specs.Nodes.{nodeLines, linesTo}
 use Rattle.image.specs.Nodes.{meant, nodeOf, nodeAt, linesOf}
 use Rattle.image.proofs.Passing.{few, fewer}
 use Rattle.image.proofs.fetched.lines.Statement.{statement}
@@ -47,7 +47,7 @@ loop-again c =
     let start = c .before .before .before .before .before .before in
     let s = start .args .image .now in
     let l = c .before .before .before .before .loop in
-    let line = c .before .line-at .ensures ∙ ap (λ (at : ℕ). lineOf (meant s (nodeOf s at))) (start .pre .1 (l .n) (omega arith)) in
+    let line = c .before .line-at .ensures ∙ ap (λ (at : ℕ). nodeLines (meant s (nodeOf s at))) (start .pre .1 (l .n) (omega arith)) in
     (omega arith, rw (add-one (l .n)) (c .larger .ensures ∙ ap₂ max (l .inv .1) line))
 
 returns : tie.Need-returns Inv-loop μ-loop
