@@ -1,4 +1,4 @@
--- The verdict on an image (document 01, "When no figure is given"): fields from the front, then 7, 8, 9. Definitions only.
+-- The verdict on an image (document 01, "When no figure is given"): fields from the front, then 7, 8, 9 and 18. Definitions only.
 use mathlib.Core.Bool.{Bool, true, false}
 use mathlib.Core.List.{List}
 use Prim.Native.Nat.{ℕ, zero, suc, _+_, _-_, _*_}

@@ -6,7 +6,8 @@
 // beside the verdict. For a refused image the places are left free.
 //
 // specs/ has the definitions, in the document's order: Bytes, Fields (the rows, and numbers 1 to 6), Nodes (what a node field means
-// to crate `runs`), Judged (7 to 9 and 18, and the verdict), Conditions (the table, row by row), Promise; Inner is between functions of this crate.
+// to crate `runs`), Judged (7 to 9 and 18, and the verdict), Conditions (the table, row by row), Promise; Inner is between functions of this
+// crate.
 // src/: read (bytes), rows (the rows' rules), fields (the scan), nodes (decoding), weigh (depth and visits), fetched (lines), and the verdict here.
 ghost use mathlib.Core.Path.{_≡_};
 ghost use Rattle.image.specs.Judged.{wholeOf, numberOf};
@@ -29,8 +30,8 @@ pub mod read;
 pub mod rows;
 mod weigh;
 
-// Why there is no answer: the words of the papers' tables but 21, in one list. Judging answers the first nine and of document 02 `Lines` (18);
-// `Table` is for what lends a table, and of document 02 `Register`, `Busy` and `Forbidden` for calls to the arbiter (15 to 17), `Block` for one that edits a block (19).
+// Why there is no answer: the words of the papers' tables but 21, in one list. Judging answers the first nine and `Lines` (18); `Table` is for
+// what lends a table, `Register`, `Busy` and `Forbidden` are for calls to the arbiter (15 to 17), `Block` is for one that edits a block (19).
 pub enum Refusal {
     Cut,
     Tag,
