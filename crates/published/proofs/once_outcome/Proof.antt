@@ -1,6 +1,5 @@
 -- The exits of the access and of the hit time are joined, and the larger cost counts.
-use mathlib.Core.Path.{_∙_, ap}
-use Prim.Native.Nat.{ℕ, max}
+use mathlib.Core.Path.{refl}
 use borrow.Author.Needs.{needs}
 use Rattle.runs.specs.Figures.{cost}
 use Rattle.published.proofs.Fetches.{once-exited}
@@ -32,7 +31,7 @@ returns c =
       exited =
           once-exited (a .b) (a .x .line) (a .x .lowest) (a .x .highest) (a .x .hit) (a .s) (missed .result) (hit .result) (c .join .result) (missed .ensures)
           (hit .ensures) (c .join .ensures);
-      costs = c .before .larger .ensures ∙ ap (λ (n : ℕ). max n (a .x .hit)) (c .before .before .before .before .access-cost .ensures);
+      costs = rw (c .before .larger .ensures, c .before .before .before .before .access-cost .ensures) refl;
     }
 
 pub once-outcome-spec : {M : Type 1} → statement M

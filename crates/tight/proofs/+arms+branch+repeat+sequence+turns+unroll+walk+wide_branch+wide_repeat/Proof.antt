@@ -312,7 +312,12 @@ arms-walk-requires t c κs =
     (omega (arith, c .before .before .before .before .before .before .before .before .before .before .before .before .before .before .pre .0, low), copied-ready (a .image .now) (a .k) (a .places .now) (p .walkable) (a .node) (p .low) (a .c .place) (a .c .count) (p .named) (l .i) i< (w .result) (w .ensures .0) (a .t .now) (l .arm) _ (c .before .before .before .before .before .before .before .before .before .size .result) (c .before .before .before .before .before .before .before .before .before .size .ensures) long (c .before .before .before .copy .ensures .0) (c .before .before .before .copy .ensures .1) (l .inv .3))
 
 arms-join-requires : (t : ℕ) → arms-lts.Need-join-requires (arms-claims t) (arms-at t) arms.Post arms-Inv-loop arms-μ-loop
-arms-join-requires t c κs = let p = c .before .before .before .before .before .before .before .before .before .before .before .before .before .before .before .before .before .before .before .pre .1 in (omega (arith, c .before .before .before .before .before .before .before .before .before .before .before .before .before .before .size .ensures, c .before .before .before .before .before .before .before .before .before .before .before .before .before .loop .inv .1, p .1 .size), omega (arith, c .before .before .before .before .before .before .before .before .before .before .before .before .before .before .size .ensures, c .before .before .before .before .walk .ensures .size, c .before .before .before .before .before .before .before .before .copy .ensures .0, c .before .before .before .before .before .before .before .before .before .before .before .before .before .loop .inv .2, p .2))
+arms-join-requires t c κs =
+    let p = c .before .before .before .before .before .before .before .before .before .before .before .before .before .before .before .before .before .before .before .pre .1 in
+    let n = c .before .before .before .before .before .before .before .before .before .before .before .before .before .before .size .ensures in
+    let l = c .before .before .before .before .before .before .before .before .before .before .before .before .before .loop in
+    let copied = c .before .before .before .before .before .before .before .before .copy .ensures .0 in
+    (omega (arith, n, l .inv .1, p .1 .size), omega (arith, n, c .before .before .before .before .walk .ensures .size, copied, l .inv .2, p .2, p .0 .size))
 
 arms-add-i : (t : ℕ) → arms-lts.Need-add-i (arms-claims t) (arms-at t) arms.Post arms-Inv-loop arms-μ-loop
 arms-add-i t c = omega (arith, c .before .before .before .before .before .before .before .before .before .before .before .before .before .before .before .before .before .before .before .before .before .before .pre .1 .0 .named .few)
