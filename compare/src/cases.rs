@@ -1,6 +1,6 @@
 //! Images written by hand: the worked tasks, both sides of every limit, and inputs where more than one refusal holds.
 
-use crate::generate::{blank_nodes, branch, bus, bus_block, field, looped, plain, sequence, starts, Cases, Expected};
+use crate::generate::{blank_nodes, branch, bus, bus_block, fetch, field, looped, plain, sequence, starts, Cases, Expected};
 use Expected::{Accepted, Open, Refused};
 
 /// Cores 2, slot 5, core 0, as in "Worked tasks".
@@ -21,15 +21,30 @@ fn either(good: bool, number: u64) -> Expected {
     }
 }
 
+/// What `figure` writes: the tight and the published figure, and the exit offsets with their times.
+fn listing(figures: (u64, u64), exits: &[(u64, u64)]) -> Expected {
+    let mut text = format!("tight {}\npublished {}\nexits {}\n", figures.0, figures.1, exits.len());
+    for (offset, time) in exits {
+        text += &format!("{offset} {time}\n");
+    }
+    Expected::Text(text)
+}
+
+fn line(text: &str) -> Expected {
+    Expected::Text(format!("{text}\n"))
+}
+
+/// One node over another, `levels` high, on this one.
+fn tower(first: Vec<u8>, levels: u16, level: &dyn Fn(u16) -> Vec<u8>) -> Vec<Vec<u8>> {
+    let mut nodes = vec![first];
+    nodes.extend((0..levels).map(level));
+    nodes
+}
+
 /// "Worked tasks", with what `figure` writes for them. Where document 01 gives times only, the figures follow from these.
 pub fn worked(cases: &mut Cases) {
     let mut task = |bus: Vec<u8>, from: &[u8], nodes: &[Vec<u8>], figures: (u64, u64), exits: &[(u64, u64)]| {
-        let image = [bus, starts(from), nodes.concat()].concat();
-        let mut text = format!("tight {}\npublished {}\nexits {}\n", figures.0, figures.1, exits.len());
-        for (offset, time) in exits {
-            text += &format!("{offset} {time}\n");
-        }
-        cases.add("worked", image, Expected::Text(text));
+        cases.add("worked", [bus, starts(from), nodes.concat()].concat(), listing(figures, exits));
     };
     // "Waits, e = 2: offset 3 gives 0, offset 4 gives 6."
     task(small_bus(), &[3], &[a2()], (2, 2), &[(5, 2)]);
@@ -72,26 +87,21 @@ pub fn worked(cases: &mut Cases) {
     assert!(built == printed, "the builders give the printed bytes");
 
     let from_zero = |first: Vec<u8>, nodes: &[Vec<u8>]| [first, starts(&[0]), nodes.concat()].concat();
-    let text = |line: &str| Expected::Text(format!("{line}\n"));
     // "16 cores × slot 16 is accepted, 16 × 17 gives 5; difference 63 is accepted, 64 gives 5."
     cases.add("worked", from_zero(bus(16, 16, 0), &[plain(0, 63)]), Accepted);
-    cases.add("worked", from_zero(bus(16, 17, 0), &[plain(0, 63)]), text("refused 5 0"));
+    cases.add("worked", from_zero(bus(16, 17, 0), &[plain(0, 63)]), line("refused 5 0"));
     cases.add("worked", from_zero(small_bus(), &[plain(7, 70)]), Accepted);
-    cases.add("worked", from_zero(small_bus(), &[plain(7, 71)]), text("refused 5 10"));
+    cases.add("worked", from_zero(small_bus(), &[plain(7, 71)]), line("refused 5 10"));
     // "A block under 23 nested one-child sequences is accepted, under 24 gives 8."
-    let nested = |levels: u16| {
-        let mut nodes = vec![a2()];
-        nodes.extend((0..levels).map(|below| sequence(&[below])));
-        from_zero(small_bus(), &nodes)
-    };
-    cases.add("worked", nested(23), text("tight 2\npublished 2\nexits 1\n2 2"));
-    cases.add("worked", nested(24), text(&format!("refused 8 {}", 6 + 4 + 6 + 24 * 5)));
+    let nested = |levels: u16| from_zero(small_bus(), &tower(a2(), levels, &|below| sequence(&[below])));
+    cases.add("worked", nested(23), line("tight 2\npublished 2\nexits 1\n2 2"));
+    cases.add("worked", nested(24), line(&format!("refused 8 {}", 6 + 4 + 6 + 24 * 5)));
     // "A loop of 10,000 over a block, inside a loop of 9: 90,010 visits, accepted. Inside a loop of 10: 100,011, gives 9."
     let inside = |count: u16| from_zero(small_bus(), &[plain(10, 10), looped(10_000, 10_000, 0), looped(count, count, 1)]);
-    cases.add("worked", inside(9), text("tight 900000\npublished 900000\nexits 1\n0 900000"));
-    cases.add("worked", inside(10), text(&format!("refused 9 {}", 6 + 4 + 7 + 9 + 9)));
+    cases.add("worked", inside(9), line("tight 900000\npublished 900000\nexits 1\n0 900000"));
+    cases.add("worked", inside(10), line(&format!("refused 9 {}", 6 + 4 + 7 + 9 + 9)));
     // "An empty image gives 7 at place 0."
-    cases.add("worked", Vec::new(), text("refused 7 0"));
+    cases.add("worked", Vec::new(), line("refused 7 0"));
 }
 
 /// Just inside and just outside of every rule of every row.
@@ -175,11 +185,12 @@ pub fn limits(cases: &mut Cases) {
         add(task(&[field(3, &zeros)]), either(length == 4, 4));
         let ones = vec![1; length.into()];
         add(task(&[field(4, &ones)]), either(length == 3, 4));
+        add(task(&[field(10, &ones)]), either(length == 5, 4));
         let mut bytes = vec![2, 5, 0];
         bytes.resize(length.into(), 0);
         add([field(1, &bytes), starts(&[0]), plain(1, 1)].concat(), either(length == 3, 4));
     }
-    for tag in 1..=7 {
+    for tag in (1..=7).chain([10]) {
         for length in [64, 255, 256, 257, 258, 512, 1_024] {
             let body: Vec<u8> = (0..length).map(|byte| byte as u8).collect();
             let before = match tag {
@@ -229,6 +240,8 @@ pub fn limits(cases: &mut Cases) {
             let mut nodes = blank_nodes(number - 1);
             nodes.extend(if number == 1 { plain(2, 3) } else { sequence(&[number as u16 - 2, 0]) });
             add(task(&[nodes]), either(number <= 256, 3));
+            add(task(&[blank_nodes(number - 1), fetch(3, 1, 5, 2)]), either(number <= 256, 3));
+            add(task(&[fetch(0, 1, 5, 2).repeat(number)]), either(number <= 256, 3));
         }
     }
 
@@ -238,17 +251,270 @@ pub fn limits(cases: &mut Cases) {
     add([bus(16, 16, 1), starts(&all)].concat(), Refused(7));
 }
 
+/// Code fetched once, change request W9: tasks with what `figure` writes for them, worked out here. Cores 2, slot 5, core 0, P = 10, unless
+/// said. F is a block of line 0 that accesses for 2 cycles and has a hit time of 1.
+pub fn worked_lines(cases: &mut Cases) {
+    let mut task = |bus: Vec<u8>, from: &[u8], nodes: &[Vec<u8>], figures: (u64, u64), exits: &[(u64, u64)]| {
+        cases.add("worked lines", [bus, starts(from), nodes.concat()].concat(), listing(figures, exits));
+    };
+    let f = || fetch(0, 2, 2, 1);
+    // F from {0}: 2 after 2, the hit is not executed. Published: the access costs 2 and ends at 2, the hit costs 1 and ends at 1; no run
+    // ends at 1.
+    task(small_bus(), &[0], &[f()], (2, 2), &[(2, 2)]);
+    // a hit of 9 costs more, though none is executed
+    task(small_bus(), &[0], &[fetch(0, 2, 2, 9)], (2, 9), &[(2, 2)]);
+    // a hit of 2 ends where the access does: the published exits are the exit offsets
+    task(small_bus(), &[0], &[fetch(0, 2, 2, 2)], (2, 2), &[(2, 2)]);
+    // F in a loop of 3 from {4}. The first iteration waits 6 and accesses: 2 after 8; then hits: 3 after 9, 4 after 10.
+    // Published: {4}: 8 to 2, 1 to 5, costs 8. {2, 5}: 2 to 4, 1 to 3; 7 to 2, 1 to 6, costs 7. {2, 3, 4, 6}: of the accesses that from
+    // 4 is the longest, costs 8. Sum 23.
+    task(small_bus(), &[4], &[f(), looped(3, 3, 0)], (10, 23), &[(4, 10)]);
+    task(small_bus(), &[4], &[f(), looped(1, 3, 0)], (10, 23), &[(2, 8), (3, 9), (4, 10)]);
+    // a loop of 2 around a loop of 2, from {0}: 2 after 2, then three hits. Published: {0} costs 2, {1, 2} costs 2, {2, 3, 4} costs 8,
+    // {2, 3, 4, 5} costs 8.
+    task(small_bus(), &[0], &[f(), looped(2, 2, 0), looped(2, 2, 1)], (5, 20), &[(5, 5)]);
+    // no iteration: nothing is fetched
+    task(small_bus(), &[4], &[fetch(3, 2, 2, 1), looped(0, 0, 0)], (0, 0), &[(4, 0)]);
+    // F with a hit of 3, none or once in a loop and then once more, from {0}: 2 after 2, or 2 after 2 and then 5 after 5.
+    // Published: the loop costs 3 and ends at {0, 2, 3}; from there the block costs 3.
+    let hit_3 = || fetch(0, 2, 2, 3);
+    task(small_bus(), &[0], &[hit_3(), looped(0, 1, 0), sequence(&[1, 0])], (5, 6), &[(2, 2), (5, 5)]);
+    // "counted over all nodes with that line": F, then a block of the same line with a hit of 5, from {0}: 2 after 2, 7 after 7.
+    // Published: costs 2, ends at {1, 2}; then 3 or 5, costs 5.
+    let other = || fetch(0, 3, 3, 5);
+    task(small_bus(), &[0], &[f(), other(), sequence(&[0, 1])], (7, 7), &[(7, 7)]);
+    // the other way round: 3 after 3, 4 after 4. Published: costs 5, ends at {3, 5}; then F costs 7, from 5.
+    task(small_bus(), &[0], &[f(), other(), sequence(&[1, 0])], (4, 12), &[(4, 4)]);
+    // two lines, each twice, from {0}: 2 after 2, 4 after 4, then hits. Published: {0} costs 2, {1, 2} costs 2, {2, 3, 4} costs 8,
+    // {2, 3, 4, 5} costs 8.
+    task(small_bus(), &[0], &[f(), fetch(1, 2, 2, 1), sequence(&[0, 1, 0, 1])], (6, 20), &[(6, 6)]);
+    // a line fetched in one arm only, then F with a hit of 3, from {0}. First arm: 2 after 2, then a hit: 5 after 5. Second arm: 1 after
+    // 1, then an access: 3 after 3. Published: the branch costs 3 and ends at {1, 2, 3}, then 3.
+    task(small_bus(), &[0], &[hit_3(), plain(1, 1), branch(&[0, 1]), sequence(&[2, 0])], (5, 6), &[(3, 3), (5, 5)]);
+    // both arms end at 2, after 2 with the line and after 12 without; then 5 after 5 and 4 after 14. Published: 12 and 3.
+    task(small_bus(), &[0], &[hit_3(), plain(12, 12), branch(&[0, 1]), sequence(&[2, 0])], (14, 15), &[(4, 14), (5, 5)]);
+    // a hit slower than the access: twice, hit 9, from {0}: 2 after 2, 1 after 11. Published: 9 and 9.
+    task(small_bus(), &[0], &[fetch(0, 2, 2, 9), looped(2, 2, 0)], (11, 18), &[(1, 11)]);
+    // hits of 0 and 65,535, twice: 2 after 2; 7 after 65,537. Published: 2 and 2 (from 0); twice 65,535.
+    task(small_bus(), &[0], &[fetch(0, 2, 2, 0), looped(2, 2, 0)], (2, 4), &[(2, 2)]);
+    task(small_bus(), &[0], &[fetch(0, 2, 2, 65_535), looped(2, 2, 0)], (65_537, 131_070), &[(7, 65_537)]);
+    // hits of 256 and of 1 are told apart: 2 after 2, then 8 after 258
+    task(small_bus(), &[0], &[fetch(0, 2, 2, 256), looped(2, 2, 0)], (258, 512), &[(8, 258)]);
+    // 1 to 3 cycles from {3}: 4 after 1, 5 after 2, and with a wait of 7: 3 after 10. Published: costs 10, ends at {3, 4, 5}.
+    task(small_bus(), &[3], &[fetch(0, 1, 3, 1)], (10, 10), &[(3, 10), (4, 1), (5, 2)]);
+    // twice: each of these and a hit. Published: from 3 it costs 10 again.
+    task(small_bus(), &[3], &[fetch(0, 1, 3, 1), sequence(&[0, 0])], (11, 20), &[(4, 11), (5, 2), (6, 3)]);
+    // F twice from {3, 5}, "at first none": 5 after 2, 6 after 3; 2 after 7, 3 after 8. Published: {3, 5} costs 7, ends at {2, 4, 5, 6},
+    // costs 8 from 4.
+    task(small_bus(), &[3, 5], &[f(), sequence(&[0, 0])], (8, 15), &[(3, 8), (6, 3)]);
+    // core 1, twice from {9}: 7 after 8, 8 after 9. Published: 8, ends at {0, 7}, then 7 from 0.
+    task(bus(2, 5, 1), &[9], &[f(), looped(2, 2, 0)], (9, 15), &[(8, 9)]);
+    // blocks without a line fetch none: always 2, may 2, F, F from {0}. The always-access block: 2 after 2. The may-access one: 4 after 4.
+    // F: 2 after 12, then 3 after 13. Published: 2, 2; {4} costs 8, ends at {2, 5}; then 7.
+    let others = [a2(), bus_block(1, 2, 2), f(), sequence(&[0, 1, 2, 2])];
+    task(small_bus(), &[0], &others, (13, 19), &[(3, 13)]);
+    // a branch of a block of line 0 that accesses for 5 and has a hit of 40, and plain 30, in loops from {5}: each ends at 5, the access
+    // after 10. The longest of k: 30 × k with plain alone, or 10 + 40 × (k − 1), longer from k = 4 on. Published: 40 each.
+    let arms = |count: u16, least: u16| [fetch(0, 5, 5, 40), plain(30, 30), branch(&[0, 1]), looped(least, count, 2)];
+    task(small_bus(), &[5], &arms(2, 2), (60, 80), &[(5, 60)]);
+    task(small_bus(), &[5], &arms(3, 3), (90, 120), &[(5, 90)]);
+    task(small_bus(), &[5], &arms(4, 4), (130, 160), &[(5, 130)]);
+    task(small_bus(), &[5], &arms(4, 1), (130, 160), &[(5, 130)]);
+    task(small_bus(), &[5], &arms(10_000, 10_000), (399_970, 400_000), &[(5, 399_970)]);
+    // the same later: period 2, from {1}, an access after 2, a hit of 65,534, or plain 65,520; 65,520 × k against 2 + 65,534 × (k − 1),
+    // which is longer from k = 4,681 on. Published: 65,534 each.
+    for (count, tight, published) in
+        [(4_680, 306_633_600, 306_699_120), (4_681, 306_699_122, 306_764_654), (5_000, 327_604_468, 327_670_000)]
+    {
+        let nodes = [fetch(0, 1, 1, 65_534), plain(65_520, 65_520), branch(&[0, 1]), looped(count, count, 2)];
+        task(bus(2, 1, 0), &[1], &nodes, (tight, published), &[(1, tight)]);
+    }
+    // all 16 combinations meet at offset 1, period 2: each line is fetched after 2, or 10 cycles are passed; then each once more, a hit of
+    // 0 or 20 or an access of 2. Lines 0 and 2: 10 + 2 is longer; lines 1 and 3: 2 + 20. Published: 10, 20, 10, 20 and 2, 20, 2, 20.
+    let nodes = [
+        fetch(0, 1, 1, 0),
+        fetch(1, 1, 1, 20),
+        fetch(2, 1, 1, 0),
+        fetch(3, 1, 1, 20),
+        plain(10, 10),
+        branch(&[0, 4]),
+        branch(&[1, 4]),
+        branch(&[2, 4]),
+        branch(&[3, 4]),
+        sequence(&[5, 6, 7, 8, 0, 1, 2, 3]),
+    ];
+    task(bus(2, 1, 0), &[1], &nodes, (68, 104), &[(1, 68)]);
+    // only line 3, which makes 4 lines: 64 × 16 = 1,024. F of line 3 twice, core 3 of 4 cores × slot 16, from {63}: a wait of 49, then 2:
+    // 50 after 51, 51 after 52. Published: 51, ends at {0, 50}; from 0 a wait of 48, then 2.
+    task(bus(4, 16, 3), &[63], &[fetch(3, 2, 2, 1), looped(2, 2, 0)], (52, 101), &[(51, 52)]);
+    // a line of a node that is not reached
+    task(bus(4, 16, 0), &[0], &[fetch(3, 2, 2, 1), plain(1, 1)], (1, 1), &[(1, 1)]);
+    task(bus(16, 16, 0), &[0], &[fetch(1, 2, 2, 1), plain(1, 1)], (1, 1), &[(1, 1)]);
+    cases.add("worked lines", [bus(5, 13, 0), starts(&[0]), fetch(3, 2, 2, 1), plain(1, 1)].concat(), line("refused 18 25"));
+    cases.add("worked lines", [bus(5, 13, 0), starts(&[0]), fetch(3, 2, 2, 1)].concat(), line("refused 18 18"));
+}
+
+/// "a line number 0 to 3, lowest and highest bus duration as in tag 4, and a two-byte hit time", body length 5.
+pub fn limits_of_lines(cases: &mut Cases) {
+    let mut add = |image: Vec<u8>, expected: Expected| cases.add("limits of lines", image, expected);
+    let one = |block: Vec<u8>| [small_bus(), starts(&[0, 4]), block].concat();
+    for number in [0, 1, 2, 3, 4, 5, 7, 8, 9, 10, 127, 128, 129, 252, 255] {
+        for hit in [0, 1, 5, 6, 10, 63, 64, 255, 256, 257, 10_000, 10_001, 32_768, 65_534, 65_535] {
+            add(one(fetch(number, 1, 5, hit)), either(number <= 3, 5));
+        }
+    }
+    for (cores, slot) in [(2u8, 1u8), (2, 5), (3, 5), (3, 85), (16, 16), (2, 128)] {
+        for number in [0, 1] {
+            for lowest in [0, 1, slot - 1, slot, slot + 1, 255] {
+                for highest in [0, 1, slot - 1, slot, slot + 1, 255] {
+                    let good = 1 <= lowest && lowest <= highest && highest <= slot;
+                    let image = [bus(cores, slot, cores - 1), starts(&[0, 1]), fetch(number, lowest, highest, 3)];
+                    add(image.concat(), either(good, 5));
+                }
+            }
+        }
+    }
+    // cut bodies, alone and behind another node; then 4 and 5 at their fields
+    for before in [Vec::new(), plain(1, 1)] {
+        let whole = one([before.clone(), fetch(4, 0, 9, 1)].concat());
+        let place = whole.len() - 8;
+        for cut in 1..=7 {
+            add(whole[..whole.len() - cut].to_vec(), line(&format!("refused 1 {place}")));
+        }
+        add(whole, line(&format!("refused 5 {place}")));
+        for length in [0, 3, 4, 6, 7] {
+            let image = one([before.clone(), field(10, &vec![1; length])].concat());
+            add(image.clone(), line(&format!("refused 4 {place}")));
+            add([image, plain(1, 1)].concat(), line(&format!("refused 4 {place}")));
+        }
+    }
+    // tag 10 is that of a node field only, and the tags next to it are of none
+    add(fetch(0, 1, 1, 1), Refused(2));
+    add([small_bus(), fetch(0, 1, 1, 1)].concat(), Refused(2));
+    for tag in [0, 1, 2, 8, 9, 11, 12, 18, 26, 138] {
+        for length in [2, 5] {
+            add(one(field(tag, &vec![1; length])), line("refused 2 11"));
+            add(one([fetch(0, 1, 1, 1), field(tag, &vec![1; length])].concat()), line("refused 2 19"));
+        }
+    }
+    // "The depth of a block is 1", its visits are 1
+    for levels in [22, 23, 24] {
+        let nodes = tower(fetch(3, 2, 2, 1), levels, &|below| sequence(&[below]));
+        add(one(nodes.concat()), either(levels <= 23, 8));
+        let nodes = tower(fetch(3, 2, 2, 1), levels, &|below| looped(1, 1, below));
+        add(one(nodes.concat()), either(levels <= 23, 8));
+    }
+    // 1 + 9 × 10,001 + (last + 1) + more
+    for (last, more) in [(9_988, 1), (9_988, 2), (9_989, 0), (9_990, 0)] {
+        let named = [vec![1; 9], vec![2], vec![0; more]].concat();
+        let visits = 1 + 9 * 10_001 + (u64::from(last) + 1) + more as u64;
+        let nodes = [fetch(0, 1, 2, 3), looped(9_999, 10_000, 0), looped(last, last, 0), sequence(&named)];
+        add(one(nodes.concat()), either(visits <= 100_000, 9));
+    }
+}
+
+/// "18 lines, period × 2 to the number of lines exceeds 1,024, judged after 9 and before 10, with the image's length as place"
+pub fn number_of_lines(cases: &mut Cases) {
+    let mut add = |image: Vec<u8>, expected: Expected| cases.add("number of lines", image, expected);
+    // cores and slot, and the number of lines that is still accepted
+    for (cores, slot, most) in [
+        (16, 16, 2),
+        (2, 128, 2),
+        // 255, 254, 240, 130, 129
+        (3, 85, 2),
+        (2, 127, 2),
+        (16, 15, 2),
+        (2, 65, 2),
+        (3, 43, 2),
+        // 128, 126, 120, 66, 65
+        (2, 64, 3),
+        (16, 8, 3),
+        (2, 63, 3),
+        (8, 15, 3),
+        (2, 33, 3),
+        (3, 22, 3),
+        (5, 13, 3),
+        (13, 5, 3),
+        // 64, 63, 32, 2
+        (4, 16, 4),
+        (16, 4, 4),
+        (2, 32, 4),
+        (3, 21, 4),
+        (2, 16, 4),
+        (2, 1, 4),
+    ] {
+        let opening = [bus(cores, slot, 1), starts(&[0])].concat();
+        for number in 0..4u8 {
+            let block = || fetch(number, 1, 1, 2);
+            let lower = || fetch(0, 1, 1, 3);
+            // alone; behind and before a lower line; not reached; not executed; in an arm; in every node
+            let all = [
+                block(),
+                [lower(), block(), sequence(&[0, 1])].concat(),
+                [block(), lower(), sequence(&[0, 1])].concat(),
+                [block(), plain(1, 1)].concat(),
+                [block(), lower()].concat(),
+                [block(), looped(0, 0, 0)].concat(),
+                [block(), plain(1, 1), branch(&[0, 1]), sequence(&[2, 2])].concat(),
+                [(0..=number).flat_map(|line| fetch(line, 1, 1, 2)).collect(), looped(1, 2, number.into())].concat(),
+                [block().repeat(5), sequence(&[4, 3, 2, 1, 0])].concat(),
+            ];
+            for nodes in all {
+                let image = [opening.clone(), nodes].concat();
+                let refused = line(&format!("refused 18 {}", image.len()));
+                add(image, if u32::from(number) < most { Accepted } else { refused });
+            }
+        }
+        // "or 0"
+        add([opening, bus_block(2, 1, 1)].concat(), Accepted);
+    }
+    // 1 to 6, 8 and 9 come before 18
+    let wide = [bus(16, 16, 0), starts(&[0]), fetch(3, 1, 1, 1)].concat();
+    let with = |more: Vec<u8>| [wide.clone(), more].concat();
+    for (number, more) in [
+        (1, vec![10]),
+        (1, vec![10, 0]),
+        (1, vec![10, 0, 5, 3, 1]),
+        (2, field(9, &[3, 1, 1, 0, 1])),
+        (3, blank_nodes(256)),
+        (4, field(10, &[3, 1, 1, 0])),
+        (5, fetch(4, 1, 1, 1)),
+        (5, plain(1, 0)),
+        (6, sequence(&[1])),
+    ] {
+        let place = if number == 3 { 18 + 255 * 7 } else { 18 };
+        add(with(more), line(&format!("refused {number} {place}")));
+    }
+    let over = |levels: u16, level: &dyn Fn(u16) -> Vec<u8>| with((0..levels).flat_map(level).collect());
+    let placed = |number: u64, image: Vec<u8>| {
+        let refused = line(&format!("refused {number} {}", image.len()));
+        (image, refused)
+    };
+    for (image, expected) in [
+        placed(18, over(23, &|below| sequence(&[below]))),
+        placed(8, over(24, &|below| sequence(&[below]))),
+        placed(18, over(23, &|below| looped(1, 1, below))),
+        placed(8, over(24, &|below| looped(1, 1, below))),
+        placed(18, over(15, &|below| sequence(&[below, below]))),
+        placed(9, over(16, &|below| sequence(&[below, below]))),
+        placed(9, over(23, &|below| sequence(&[below, below]))),
+        placed(8, over(24, &|below| sequence(&[below, below]))),
+        placed(18, with([looped(0, 10_000, 0), looped(0, 9, 1)].concat())),
+        placed(9, with([looped(0, 10_000, 0), looped(0, 10, 1)].concat())),
+        // deep and long nodes that are not reached do not count, their lines do
+        placed(18, [over(24, &|below| sequence(&[below])), plain(1, 1)].concat()),
+        placed(18, with([looped(0, 10_000, 0), looped(0, 10_000, 1), plain(1, 1)].concat())),
+    ] {
+        add(image, expected);
+    }
+}
+
 /// "The entry's depth is at most 24 and its visits at most 100,000."
 pub fn depth_and_visits(cases: &mut Cases) {
     let mut add = |nodes: &[Vec<u8>], expected: Expected| {
         cases.add("depth and visits", [small_bus(), starts(&[1, 4]), nodes.concat()].concat(), expected);
     };
-    // one node over another, `levels` high
-    let tower = |levels: u16, level: &dyn Fn(u16) -> Vec<u8>| {
-        let mut nodes = vec![a2()];
-        nodes.extend((0..levels).map(level));
-        nodes
-    };
+    let tower = |levels: u16, level: &dyn Fn(u16) -> Vec<u8>| tower(a2(), levels, level);
     for levels in [1, 5, 22, 23, 24, 25, 26, 100, 254, 255] {
         let expected = || either(levels <= 23, 8);
         add(&tower(levels, &|below| sequence(&[below])), expected());
@@ -392,7 +658,7 @@ pub fn order(cases: &mut Cases) {
 
     // head cut comes first, whatever the bytes left
     for before in [Vec::new(), small_bus(), opening.clone(), with_nodes(1), with_nodes(7), with_nodes(255), with_nodes(256)] {
-        for tag in [0u8, 1, 2, 3, 4, 5, 6, 7, 8, 255] {
+        for tag in [0u8, 1, 2, 3, 4, 5, 6, 7, 8, 9, 10, 11, 255] {
             cases.add("order", [before.clone(), vec![tag]].concat(), Refused(1));
             for second in [0u8, 255] {
                 cases.add("order", [before.clone(), vec![tag, second]].concat(), Refused(1));
@@ -402,7 +668,7 @@ pub fn order(cases: &mut Cases) {
 
     // one field with every mixture of faults, at every position where the answer differs
     for (position, before) in [Vec::new(), small_bus(), opening.clone(), with_nodes(1), with_nodes(256)].iter().enumerate() {
-        for tag in [0u8, 1, 2, 3, 4, 5, 6, 7, 8, 255] {
+        for tag in [0u8, 1, 2, 3, 4, 5, 6, 7, 8, 9, 10, 11, 255] {
             for body in bodies(tag) {
                 for length in [body.len(), 0, body.len() + 1, body.len() + 256] {
                     let head = [tag, (length / 256) as u8, (length % 256) as u8];
@@ -450,9 +716,9 @@ pub fn order(cases: &mut Cases) {
     add(starts(&[0]), 2);
     // 2 before 3; 3 before 4, a cut body, 5 and 6
     let full = with_nodes(256);
-    for tag in 0..=9u8 {
+    for tag in 0..=11u8 {
         for rest in [vec![0, 0], vec![255, 255], vec![0, 4], vec![0, 4, 1, 0, 0, 0], vec![0, 3, 9, 9, 9]] {
-            let number = if (3..=7).contains(&tag) { 3 } else { 2 };
+            let number = if node_tag(tag) { 3 } else { 2 };
             cases.add("order", [full.clone(), vec![tag], rest].concat(), Refused(number));
         }
     }
@@ -467,6 +733,11 @@ pub fn order(cases: &mut Cases) {
     }
 }
 
+/// The tags of node fields.
+fn node_tag(tag: u8) -> bool {
+    matches!(tag, 3 | 4 | 5 | 6 | 7 | 10)
+}
+
 /// Bodies for a tag: good, with a wrong value, with a wrong child number, with both.
 fn bodies(tag: u8) -> Vec<Vec<u8>> {
     match tag {
@@ -477,34 +748,47 @@ fn bodies(tag: u8) -> Vec<Vec<u8>> {
         5 => vec![vec![0, 0], vec![1, 0], vec![0, 0, 255, 255]],
         6 => vec![vec![0, 0, 0, 0], vec![0, 0, 1, 0], vec![255, 255, 0, 0]],
         7 => vec![vec![0, 0, 0, 2, 0, 0], vec![0, 3, 0, 2, 0, 0], vec![0, 0, 0, 2, 1, 0], vec![0, 3, 0, 2, 1, 0]],
+        10 => vec![vec![0, 1, 5, 0, 1], vec![3, 5, 5, 255, 255], vec![4, 1, 5, 0, 1], vec![0, 0, 5, 0, 1], vec![0, 1, 6, 0, 1]],
         _ => vec![vec![0, 0, 0, 0]],
     }
 }
 
-/// "a valid image has at most 9,197" bytes: all 256 starts, a plain block, 255 sequences of 16 children.
-pub fn longest_image(named: &dyn Fn(u16) -> u16) -> Vec<u8> {
+/// The longest block, of 8 bytes. A period of 256 permits two lines.
+pub fn longest_block() -> Vec<u8> {
+    fetch(1, 1, 3, 7)
+}
+
+/// All 256 starts, a block, 255 sequences of 16 children, the last of this child. "document 01's longest valid image" has grown to 9,198
+/// bytes, with the longest block; with a plain block it has 9,197.
+pub fn longest_image(block: Vec<u8>, child: u16) -> Vec<u8> {
     let all: Vec<u8> = (0..=255).collect();
-    let mut image = [bus(16, 16, 5), starts(&all), plain(1, 3)].concat();
+    let mut image = [bus(16, 16, 5), starts(&all), block].concat();
     for own in 1..256 {
-        let child = if own == 255 { named(own) } else { 0 };
-        image.extend(sequence(&[child; 16]));
+        image.extend(sequence(&[if own == 255 { child } else { 0 }; 16]));
     }
     image
 }
 
 /// Inputs up to and beyond what a valid image can be long.
 pub fn sizes(cases: &mut Cases) {
-    for child in [0, 1, 254] {
-        let longest = longest_image(&|_| child);
-        assert!(longest.len() == 9_197, "the longest valid image");
+    for (block, child, length) in [
+        (longest_block(), 0, 9_198),
+        (longest_block(), 1, 9_198),
+        (longest_block(), 254, 9_198),
+        (fetch(0, 16, 16, 65_535), 254, 9_198),
+        (plain(1, 3), 254, 9_197),
+        (bus_block(2, 1, 3), 254, 9_196),
+    ] {
+        let longest = longest_image(block, child);
+        assert!(longest.len() == length, "the longest valid image");
         cases.add("sizes", longest.clone(), Accepted);
-        for tag in [0u8, 3, 5, 8] {
-            for size in [9_198, 9_199, 9_200, 9_201, 9_300, 16_383, 16_384, 16_385, 16_386, 20_000] {
+        for tag in [0u8, 3, 5, 8, 10] {
+            for size in [length + 1, length + 2, length + 3, length + 4, 9_300, 16_383, 16_384, 16_385, 16_386, 20_000] {
                 let mut image = longest.clone();
                 image.resize(size, tag);
-                let expected = match size {
-                    9_198 | 9_199 => Refused(1),
-                    _ if (3..=7).contains(&tag) => Refused(3),
+                let expected = match size - length {
+                    1 | 2 => Refused(1),
+                    _ if node_tag(tag) => Refused(3),
                     _ => Refused(2),
                 };
                 cases.add("sizes", image, expected);
@@ -512,9 +796,10 @@ pub fn sizes(cases: &mut Cases) {
         }
         for cut in 1..40 {
             let expected = if cut == 35 { Accepted } else { Refused(1) };
-            cases.add("sizes", longest[..9_197 - cut].to_vec(), expected);
+            cases.add("sizes", longest[..length - cut].to_vec(), expected);
         }
         cases.add("sizes", [longest.clone(), plain(1, 1)].concat(), Refused(3));
+        cases.add("sizes", [longest.clone(), longest_block()].concat(), Refused(3));
         cases.add("sizes", [longest.clone(), longest.clone()].concat(), Refused(2));
         // 8,192 and the powers of two below: cut inside a sequence
         for size in [255, 256, 257, 512, 1_023, 1_024, 2_048, 4_095, 4_096, 4_097, 8_191, 8_192, 8_193] {
@@ -522,11 +807,15 @@ pub fn sizes(cases: &mut Cases) {
         }
         // the last child number of the last node: 255 is the entry itself
         let mut image = longest.clone();
-        image[9_196] = 255;
+        image[length - 1] = 255;
         cases.add("sizes", image, Refused(6));
     }
+    // a third line is too many for the period, and the longest image has room for its number
+    for line_number in [2, 3] {
+        cases.add("sizes", longest_image(fetch(line_number, 1, 3, 7), 254), line("refused 18 9198"));
+    }
     // a bus field and nothing but junk; long inputs refused early
-    for size in [9_197, 9_200, 16_384, 16_385, 20_000] {
+    for size in [9_197, 9_198, 9_200, 16_384, 16_385, 20_000] {
         for byte in [0u8, 1, 3, 255] {
             cases.add("sizes", vec![byte; size], Open);
             let mut image = small_bus();

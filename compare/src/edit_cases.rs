@@ -1,9 +1,9 @@
 //! Edits written by hand, with what has to be answered: change request W10, sentence by sentence.
 
-use crate::cases::longest_image;
+use crate::cases::{longest_block, longest_image};
 use crate::edit_generate::{Edits, Expected};
 use crate::editing::{is_plain, refused_line, Edit};
-use crate::generate::{blank_nodes, branch, bus, bus_block, field, hexadecimal, looped, plain, sequence, starts, Random};
+use crate::generate::{blank_nodes, branch, bus, bus_block, fetch, field, hexadecimal, looped, plain, sequence, starts, Random};
 use crate::image::judge;
 use Expected::{Begins, Line, Open};
 
@@ -25,7 +25,8 @@ fn every_kind() -> Vec<u8> {
         branch(&[0, 3]),
         looped(1, 3, 4),
         plain(4, 4),
-        sequence(&[5, 2]),
+        fetch(0, 2, 2, 1),
+        sequence(&[7, 5, 7, 2]),
     ];
     [bus(2, 5, 0), starts(&[3, 5]), nodes.concat()].concat()
 }
@@ -74,6 +75,13 @@ pub fn worked(edits: &mut Edits) {
     // "A2 twice from {3, 5}" with a block of no cycles between, from one of 1
     let between = [bus_block(2, 2, 2), plain(1, 1), sequence(&[0, 1, 0])];
     done((small(), &[3, 5]), &between, 1, (0, 0), (9, 14, &[(2, 9), (4, 9)]));
+    // a block of line 0, duration 2, hit time 1, twice from {0}: with 3 cycles between it ends at 2 after 2, then 5 after 5, then a hit.
+    // Published: costs 2, ends at {1, 2}; 3; {4, 5} costs 8. With 4 cycles before it: 2 after 12, then a hit. Published: 4, 8, and from
+    // {2, 5} 7.
+    let around = |before: u16| [fetch(0, 2, 2, 1), plain(before, before), sequence(&[0, 1, 0])];
+    done((small(), &[0]), &around(1), 1, (3, 3), (6, 13, &[(6, 6)]));
+    let before = [plain(1, 1), fetch(0, 2, 2, 1), sequence(&[0, 1, 1])];
+    done((small(), &[0]), &before, 0, (4, 4), (13, 19, &[(3, 13)]));
     // a block in a loop, which counts each time; in one that may not execute it; in one that does not
     done((small(), &[0]), &[plain(1, 1), looped(1, 3, 0)], 0, (3, 3), (9, 9, &[(3, 3), (6, 6), (9, 9)]));
     done((small(), &[0]), &[plain(1, 1), looped(0, 1, 0)], 0, (3, 3), (3, 3, &[(0, 0), (3, 3)]));
@@ -125,6 +133,7 @@ pub fn grid(edits: &mut Edits) {
         [bus(3, 85, 0), starts(&[254]), bus_block(2, 1, 4), sequence(&[0, 0]), plain(9, 9)].concat(),
         [bus(2, 5, 1), starts(&[0]), bus_block(2, 1, 4), sequence(&[0, 0])].concat(),
         [bus(2, 128, 0), starts(&[0]), plain(1, 1), plain(1, 1), plain(1, 1), sequence(&[2, 0, 2])].concat(),
+        [bus(4, 16, 3), starts(&[5, 63]), fetch(3, 1, 2, 9), plain(1, 1), fetch(0, 3, 3, 1), sequence(&[0, 1, 2, 0])].concat(),
     ];
     for image in &images {
         let task = judge(image).expect("an image that is accepted");
@@ -146,6 +155,8 @@ fn broken() -> Vec<(u64, Vec<u8>)> {
     let opening = || [bus(2, 5, 0), starts(&[3, 5])].concat();
     let with = |more: Vec<u8>| [good.clone(), more].concat();
     let tower = |levels: u16| -> Vec<u8> { (0..levels).flat_map(|below| sequence(&[below])).collect() };
+    // a period of 256 and three lines
+    let wide = || [bus(16, 16, 0), starts(&[0]), fetch(2, 1, 1, 1)].concat();
     let mut bad_first = good.clone();
     bad_first[14..18].copy_from_slice(&[0, 2, 0, 1]);
     let mut wide_first = good.clone();
@@ -162,27 +173,38 @@ fn broken() -> Vec<(u64, Vec<u8>)> {
         (3, [opening(), blank_nodes(257)].concat()),
         (4, with(field(3, &[0, 1, 0]))),
         (4, [opening(), field(3, &[0, 1, 0, 1, 0])].concat()),
+        (4, with(field(10, &[0, 1, 1, 0]))),
+        (5, with(fetch(4, 1, 1, 1))),
         (5, with(plain(1, 0))),
         (5, [bus(1, 5, 0), starts(&[3]), plain(1, 1)].concat()),
         // the block that is named is itself the one at fault: refused first, though the edit would mend it
         (5, bad_first),
         (5, wide_first),
-        (6, with(sequence(&[8]))),
+        (6, with(sequence(&[9]))),
         (6, [opening(), plain(1, 1), looped(1, 2, 1)].concat()),
         (7, Vec::new()),
         (7, bus(2, 5, 0)),
         (7, opening()),
         (8, [opening(), plain(1, 1), tower(24)].concat()),
         (9, [opening(), plain(1, 1), looped(1, 10_000, 0), looped(1, 10, 1)].concat()),
+        (8, [wide(), tower(24)].concat()),
+        (9, [wide(), looped(1, 10_000, 0), looped(1, 10, 1)].concat()),
+        (18, wide()),
+        (18, [wide(), tower(23)].concat()),
+        (18, [wide(), looped(1, 10_000, 0), looped(1, 9, 1)].concat()),
+        (18, [wide(), plain(1, 1), plain(2, 2), sequence(&[1, 0, 2])].concat()),
+        (18, [bus(2, 128, 1), starts(&[0]), plain(1, 1), fetch(3, 1, 1, 1), sequence(&[1, 0])].concat()),
+        (18, [bus(5, 13, 2), starts(&[0]), plain(1, 1), fetch(3, 1, 1, 1), plain(1, 1)].concat()),
+        (18, [bus(2, 64, 0), starts(&[0]), plain(1, 1), plain(2, 2), fetch(3, 1, 1, 1), sequence(&[2, 0, 1])].concat()),
     ]
 }
 
 /// Several refusals hold; the order decides: the image's own number, 19, 5, and 10 in the preview.
 pub fn order(edits: &mut Edits) {
     let bad = [(1, 0), (0, 64), (65_535, 65_536), (LARGEST, LARGEST), (BITS_16 + 1, BITS_16 + 2), (LARGEST - 10, 5)];
-    let absent = [8, 9, 255, 256, BITS_16, BITS_32, LARGEST];
+    let absent = [9, 10, 255, 256, BITS_16, BITS_32, LARGEST];
     for (number, image) in broken() {
-        for node in [0, 1, 2, 7, 8, 256, LARGEST] {
+        for node in [0, 1, 2, 7, 8, 9, 256, LARGEST] {
             for durations in [(1, 2), (1, 0), (0, 64), (5, 65_536), (LARGEST, LARGEST)] {
                 for places in [0, 9, 10, 300] {
                     edits.add("order of refusals", edit(&image, node, durations, places), Begins(format!("edit 1 {number} ")));
@@ -200,7 +222,7 @@ pub fn order(edits: &mut Edits) {
             }
         }
     }
-    for node in [1, 3, 4, 5, 7].into_iter().chain(absent) {
+    for node in [1, 3, 4, 5, 7, 8].into_iter().chain(absent) {
         for places in [0, 9, 10, 300] {
             for durations in bad.into_iter().chain([(1, 2)]) {
                 edits.add("order of refusals", edit(&image, node, durations, places), Line(refused_line(&image, 19, length)));
@@ -209,7 +231,7 @@ pub fn order(edits: &mut Edits) {
     }
 }
 
-/// Images of 256 nodes, and the longest that is accepted: 9,197 bytes.
+/// Images of 256 nodes, and the longest that are accepted: with a block of tag 10, 9,198 bytes, and with a plain one, 9,197.
 pub fn largest(edits: &mut Edits, random: &mut Random) {
     let opening = [bus(3, 4, 1), starts(&[0, 11])].concat();
     let blocks: Vec<u8> = (0..255).flat_map(|own| plain(own, own + own % 5)).collect();
@@ -244,16 +266,22 @@ pub fn largest(edits: &mut Edits, random: &mut Random) {
             edits.add("256 nodes", edit(image, node, (3, 2), 0), Line(refused_line(image, 5, place)));
         }
     }
-    let longest = longest_image(&|_| 254);
-    let cut = longest[..longest.len() - 1].to_vec();
-    let more = [longest.clone(), plain(1, 1)].concat();
-    for node in [0, 1, 254, 255, 256, LARGEST] {
-        for durations in [(0, 0), (1, 3), (0, 63), (65_535, 65_535), (0, 64)] {
-            for places in [255, 256] {
-                edits.add("longest image", edit(&longest, node, durations, places), Open);
+    for block in [plain(1, 3), longest_block()] {
+        let is_plain = block == plain(1, 3);
+        let longest = longest_image(block, 254);
+        let length = longest.len() as u64;
+        let cut = longest[..longest.len() - 1].to_vec();
+        let more = [longest.clone(), plain(1, 1)].concat();
+        for node in [0, 1, 254, 255, 256, LARGEST] {
+            for durations in [(0, 0), (1, 3), (0, 63), (65_535, 65_535), (0, 64)] {
+                for places in [255, 256] {
+                    let expected = if is_plain { Open } else { Line(refused_line(&longest, 19, 9_198)) };
+                    edits.add("longest image", edit(&longest, node, durations, places), expected);
+                }
             }
+            // the last field, and the field behind it
+            edits.add("longest image", edit(&cut, node, (1, 2), 256), Begins(format!("edit 1 1 {} ", length - 35)));
+            edits.add("longest image", edit(&more, node, (1, 2), 256), Begins(format!("edit 1 3 {length} ")));
         }
-        edits.add("longest image", edit(&cut, node, (1, 2), 256), Begins("edit 1 1 9162 ".to_string()));
-        edits.add("longest image", edit(&more, node, (1, 2), 256), Begins("edit 1 3 9197 ".to_string()));
     }
 }

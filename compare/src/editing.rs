@@ -5,7 +5,7 @@
 
 use crate::generate::{hexadecimal, plain};
 use crate::image::{judge, Node, Refusal, Task};
-use crate::reference::{figures, Figures};
+use crate::reference::{figures, Figures, Lines};
 
 /// An image, the block that is edited, its new durations, and the places of the table that is lent to the preview.
 #[derive(Clone, PartialEq, Eq, Hash)]
@@ -28,8 +28,10 @@ impl Edit {
 pub enum Found {
     /// the image's own number
     Own(u64),
-    /// 19 and 5
-    Block,
+    /// 19, of a block with tag 10 or not, and 5
+    Block {
+        fetched: bool,
+    },
     Durations,
     /// the edit is done; the preview has a table that is too short, or figures, from so many runs where they were enumerated
     Table,
@@ -40,13 +42,18 @@ pub enum Found {
 pub struct Answer {
     pub line: String,
     pub found: Found,
+    /// those of the figures
+    pub lines: Lines,
     /// where this reading disagrees with itself
     pub doubt: Option<String>,
 }
 
 pub fn answer(edit: &Edit, steps: u64) -> Answer {
     let length = edit.image.len() as u64;
-    let refused = |found, number, place| Answer { line: refused_line(&edit.image, number, place), found, doubt: None };
+    let refused = |found, number, place| {
+        let line = refused_line(&edit.image, number, place);
+        Answer { line, found, lines: Lines::None, doubt: None }
+    };
     // "Unaccepted images are refused first, by their own numbers"
     let task = match judge(&edit.image) {
         Err(own) => return refused(Found::Own(own.number), own.number, own.place),
@@ -54,7 +61,8 @@ pub fn answer(edit: &Edit, steps: u64) -> Answer {
     };
     // "19 block, the node does not exist or is not plain, judged before that 5, with the image's length as place"
     if !is_plain(&task, edit.node) {
-        return refused(Found::Block, 19, length);
+        let named = usize::try_from(edit.node).ok().and_then(|node| task.nodes.get(node));
+        return refused(Found::Block { fetched: matches!(named, Some(Node::Fetch { .. })) }, 19, length);
     }
     // "durations out of range get 5 at that block's field"
     let (place, edited) = edited(edit);
@@ -77,12 +85,12 @@ pub fn answer(edit: &Edit, steps: u64) -> Answer {
     // "10 is judged last in the preview"
     if edit.places < edited_task.bus.period() {
         let line = format!("edit 0 0 0 {}; preview 1 10 {length}", bytes(&edited));
-        return Answer { line, found: Found::Table, doubt };
+        return Answer { line, found: Found::Table, lines: Lines::None, doubt };
     }
     // "what the edit on a copy and a fresh calculation would give"
     let figures = figures(&edited_task, steps);
     let found = figures.runs.map_or(Found::Calculated, Found::Enumerated);
-    Answer { line: done_line(&edited, &figures), found, doubt: doubt.or(figures.doubt) }
+    Answer { line: done_line(&edited, &figures), found, lines: figures.lines, doubt: doubt.or(figures.doubt) }
 }
 
 /// The image after the edit, if both durations can be written; and the place of the block's field.

@@ -24,6 +24,7 @@ mod runs;
 
 use edit_generate::{Case, Expected};
 use editing::Found;
+use reference::Lines;
 use report::{Options, Tests};
 use std::collections::BTreeMap;
 use std::sync::Mutex;
@@ -42,13 +43,17 @@ struct Summary {
     tests: Tests,
     /// images refused by their own number
     own: BTreeMap<u64, usize>,
-    /// edits refused with 19 and with 5, and previews with 10
+    /// edits refused with 19, those of them of a block with tag 10, edits refused with 5, and previews with 10
     block: usize,
+    fetched: usize,
     durations: usize,
     table: usize,
     enumerated: usize,
     runs: u64,
     calculated: usize,
+    /// figures of images with lines, and those of them whose published exit set has offsets at which no run ends
+    with_lines: usize,
+    wider: usize,
 }
 
 /// Compares the program's line for an edit.
@@ -63,9 +68,14 @@ fn perform(number: usize, case: &Case, line: &str, summary: &Mutex<Summary>) {
 
     let mut summary = summary.lock().unwrap();
     summary.tests.tell(number, case.category, failed);
+    summary.with_lines += usize::from(answer.lines != Lines::None);
+    summary.wider += usize::from(answer.lines == Lines::Wider);
     match answer.found {
         Found::Own(number) => *summary.own.entry(number).or_default() += 1,
-        Found::Block => summary.block += 1,
+        Found::Block { fetched } => {
+            summary.block += 1;
+            summary.fetched += usize::from(fetched);
+        }
         Found::Durations => summary.durations += 1,
         Found::Table => summary.table += 1,
         Found::Enumerated(runs) => {
@@ -78,7 +88,7 @@ fn perform(number: usize, case: &Case, line: &str, summary: &Mutex<Summary>) {
 
 fn main() {
     let threads = std::thread::available_parallelism().map_or(2, |number| number.get()).min(8) as u64;
-    let numbers = [("--seed", 1), ("--images", 14_000), ("--threads", threads), ("--stop-after", u64::MAX)];
+    let numbers = [("--seed", 1), ("--images", 17_500), ("--threads", threads), ("--stop-after", u64::MAX)];
     let options = Options::new(&numbers, "target/compare/edits-linked");
     let (seed, threads) = (options.number("--seed"), options.size("--threads").max(1));
     let begun = Instant::now();
@@ -102,14 +112,19 @@ fn main() {
     summary.tests.show(&format!("seed {seed}, {threads} threads, {:.1} s", begun.elapsed().as_secs_f64()));
     let own: Vec<String> = summary.own.iter().map(|(number, all)| format!("{number}: {all}")).collect();
     println!("images refused by number: {}", own.join(", "));
-    println!("edits refused with 19: {}, with 5: {}", summary.block, summary.durations);
+    println!(
+        "edits refused with 19: {}, of a block with tag 10: {}; with 5: {}",
+        summary.block, summary.fetched, summary.durations
+    );
     println!(
         "edits done: {} with 10 in the preview, {} with figures enumerated in {} runs, {} by calculation",
         summary.table, summary.enumerated, summary.runs, summary.calculated
     );
+    println!("figures with lines: {}, of them with published exits at which no run ends: {}", summary.with_lines, summary.wider);
     // every answer of the papers was met, and runs were enumerated
-    let each_refusal = (1..=9).all(|number| summary.own.get(&number).copied().unwrap_or(0) >= 10);
+    let each_refusal = (1..=9).chain([18]).all(|number| summary.own.get(&number).copied().unwrap_or(0) >= 10);
     let edits = summary.block.min(summary.durations).min(summary.table) >= 500;
-    let met = each_refusal && edits && summary.enumerated >= 2_000 && summary.calculated >= 100;
+    let lines = summary.fetched.min(summary.with_lines).min(summary.wider) >= 200;
+    let met = each_refusal && edits && lines && summary.enumerated >= 2_000 && summary.calculated >= 100;
     summary.tests.close(all.len() + batches.len(), &[(met, "too few edits of some kind")], LEAST_PASSED);
 }

@@ -117,6 +117,11 @@ pub fn bus_block(kind: u8, lowest: u8, highest: u8) -> Vec<u8> {
     field(4, &[kind, lowest, highest])
 }
 
+/// Code fetched once: line, lowest and highest duration of its access, hit time.
+pub fn fetch(line: u8, lowest: u8, highest: u8, hit: u16) -> Vec<u8> {
+    field(10, &[vec![line, lowest, highest], numbers(&[hit])].concat())
+}
+
 pub fn sequence(children: &[u16]) -> Vec<u8> {
     field(5, &numbers(children))
 }
@@ -144,10 +149,12 @@ pub fn work(image: &[u8]) -> u64 {
         Err(_) => return 0,
     };
     let mut works: Vec<u64> = Vec::new();
+    let combinations = task.bus.period() << task.lines();
     for node in &task.nodes {
         let work = match node {
-            Node::Plain { lowest, highest } => 256 + task.bus.period() * (highest - lowest + 1),
-            Node::Access { lowest, highest, .. } => 256 + 2 * task.bus.period() * (highest - lowest + 1),
+            Node::Plain { lowest, highest } => 256 + combinations * (highest - lowest + 1),
+            Node::Access { lowest, highest, .. } => 256 + 2 * combinations * (highest - lowest + 1),
+            Node::Fetch { lowest, highest, .. } => 256 + 2 * combinations * (highest - lowest + 2),
             Node::Sequence { children: named } | Node::Branch { arms: named } => {
                 named.iter().fold(256, |sum, &child| (sum + works[child]).min(1 << 40))
             }
@@ -215,8 +222,20 @@ fn random_task(random: &mut Random, shape: &Shape) -> Vec<u8> {
     [bus(cores as u8, slot as u8, core as u8), starts(&from), nodes].concat()
 }
 
+/// How many lines the blocks of a task have: mostly none, else as many as the period permits or fewer, and seldom any.
+fn random_lines(random: &mut Random, period: u64) -> u64 {
+    let most = (0..=4).rev().find(|lines| period << lines <= 1_024).unwrap_or(0);
+    match random.below(12) {
+        0..=7 => 0,
+        8 => random.from(1, most),
+        9 if random.once_in(4) => random.from(1, 4),
+        _ => most,
+    }
+}
+
 /// The node fields of a task.
 pub fn random_nodes(random: &mut Random, shape: &Shape, slot: u64, period: u64) -> Vec<u8> {
+    let lines = random_lines(random, period);
     let mut fields = Vec::new();
     let nodes = random.from(1, shape.nodes);
     for own in 0..nodes {
@@ -228,39 +247,48 @@ pub fn random_nodes(random: &mut Random, shape: &Shape, slot: u64, period: u64) 
         } else {
             random.from(0, 9)
         };
-        fields.extend(random_node(random, shape, own, kind, slot, period));
+        fields.extend(random_node(random, shape, own, kind, (slot, period, lines)));
     }
     fields
 }
 
-fn random_node(random: &mut Random, shape: &Shape, own: u64, kind: u64, slot: u64, period: u64) -> Vec<u8> {
+/// Where there are lines, most blocks have one.
+fn random_node(random: &mut Random, shape: &Shape, own: u64, kind: u64, (slot, period, lines): (u64, u64, u64)) -> Vec<u8> {
     // mostly one of the last few nodes, so that most nodes are reached and some are shared
     let child = |random: &mut Random| {
         let back = if random.once_in(4) { own } else { own.min(3) };
         (own - 1 - random.below(back)) as u16
     };
     let range = if random.once_in(shape.range_once_in) { random.from(1, shape.range) } else { 0 };
+    let passed = |random: &mut Random| match random.below(8) {
+        0 => 0,
+        1..=4 => random.below(2 * slot + 2),
+        5 => random.below(period),
+        6 => random.below(3 * period),
+        _ if shape.range > 3 => random.below(65_536),
+        _ => random.below(300),
+    };
+    let accessed = |random: &mut Random| {
+        let lowest = match random.below(4) {
+            0 => slot,
+            1 => 1,
+            _ => random.from(1, slot),
+        };
+        (lowest as u8, (lowest + range).min(slot) as u8)
+    };
     match kind {
+        0..=3 if lines > 0 && !random.once_in(3) => {
+            let (lowest, highest) = accessed(random);
+            fetch(random.below(lines) as u8, lowest, highest, passed(random) as u16)
+        }
         0 | 1 => {
-            let lowest = match random.below(8) {
-                0 => 0,
-                1..=4 => random.below(2 * slot + 2),
-                5 => random.below(period),
-                6 => random.below(3 * period),
-                _ if shape.range > 3 => random.below(65_536),
-                _ => random.below(300),
-            };
+            let lowest = passed(random);
             let highest = (lowest + range).min(65_535);
             plain(lowest as u16, highest as u16)
         }
         2 | 3 => {
-            let lowest = match random.below(4) {
-                0 => slot,
-                1 => 1,
-                _ => random.from(1, slot),
-            };
-            let highest = (lowest + range).min(slot);
-            bus_block(random.from(1, 2) as u8, lowest as u8, highest as u8)
+            let (lowest, highest) = accessed(random);
+            bus_block(random.from(1, 2) as u8, lowest, highest)
         }
         4 | 5 => {
             let number = random.from(1, shape.children);
@@ -284,6 +312,53 @@ fn random_node(random: &mut Random, shape: &Shape, own: u64, kind: u64, slot: u6
             looped(least as u16, greatest as u16, child(random))
         }
     }
+}
+
+/// A task with as many lines as there can be, on a bus whose period permits them or just does not, or with any bus.
+fn many_lines(random: &mut Random) -> Vec<u8> {
+    let (cores, slot, core) = match random.below(3) {
+        0 => (5, 13, random.below(5)),
+        1 => (4, 16, random.below(4)),
+        _ => random_bus(random),
+    };
+    let from = starts(&[random.below(cores * slot) as u8]);
+    let mut image = [bus(cores as u8, slot as u8, core as u8), from].concat();
+    let nodes = random.from(2, 12);
+    for own in 0..nodes {
+        let kind = if own < 2 { random.from(0, 3) } else { random.from(0, 9) };
+        image.extend(random_node(random, &SMALL, own, kind, (slot, cores * slot, 4)));
+    }
+    image
+}
+
+/// A long loop over a branch of blocks with nearly the same times, most of them fetched once: runs that were behind for many iterations,
+/// since they accessed, may come to be the longest. Every other time all runs keep to one offset: accesses take the whole slot, and with
+/// their wait a period, as a hit takes some.
+fn overtaking(random: &mut Random) -> Vec<u8> {
+    let (cores, slot) = *random.one_of(&[(2, 1), (2, 2), (3, 1), (2, 3), (3, 2), (4, 3)]);
+    let (core, period) = (random.below(cores), cores * slot);
+    let one_offset = random.once_in(2);
+    let near = *random.one_of(&[0, 20, 150, 600]);
+    let time = |random: &mut Random| ((near + random.below(4)) * if one_offset { period } else { 1 }) as u16;
+    let lines = random.from(1, 3);
+    let block = |random: &mut Random| {
+        let lowest = if one_offset { slot } else { random.from(1, slot) };
+        let highest = random.from(lowest, slot);
+        fetch(random.below(lines) as u8, lowest as u8, highest as u8, time(random))
+    };
+    let passed = time(random);
+    let count = random.from(20, 1_500) as u16;
+    let least = if random.once_in(2) { count } else { random.below(count.into()) as u16 };
+    let nodes = [
+        block(random),
+        block(random),
+        plain(passed, passed),
+        branch(if random.once_in(2) { &[0, 2] } else { &[0, 1, 2] }),
+        sequence(if random.once_in(2) { &[3] } else { &[3, 1] }),
+        looped(least, count, 4),
+    ];
+    let start = if one_offset { (core + 1) * slot % period } else { random.below(period) };
+    [bus(cores as u8, slot as u8, core as u8), starts(&[start as u8]), nodes.concat()].concat()
 }
 
 /// A random task that is accepted and calculated in time.
@@ -323,7 +398,7 @@ fn damage(random: &mut Random, valid: &[u8]) -> Vec<u8> {
         match random.below(12) {
             0 => image[at] = random.below(256) as u8,
             1 => image[at] ^= 1 << random.below(8),
-            2 => image[at] = *random.one_of(&[0, 1, 2, 3, 4, 5, 6, 7, 8, 16, 63, 64, 127, 128, 255]),
+            2 => image[at] = *random.one_of(&[0, 1, 2, 3, 4, 5, 6, 7, 8, 10, 16, 63, 64, 127, 128, 255]),
             3 => {
                 image.remove(at);
             }
@@ -341,7 +416,7 @@ fn damage(random: &mut Random, valid: &[u8]) -> Vec<u8> {
                 let copy: Vec<u8> = image.drain(start..end).collect();
                 image.extend(copy);
             }
-            9 => image[start] = random.below(9) as u8,
+            9 => image[start] = random.below(12) as u8,
             10 if start + 2 < image.len() => image[start + 2] = image[start + 2].wrapping_add(random.from(254, 258) as u8),
             10 => image.push(0),
             _ => {
@@ -358,22 +433,27 @@ fn damage(random: &mut Random, valid: &[u8]) -> Vec<u8> {
 fn loose_fields(random: &mut Random) -> Vec<u8> {
     let (cores, slot, core) = random_bus(random);
     let mut image = [bus(cores as u8, slot as u8, core as u8), starts(&[random.below(cores * slot) as u8])].concat();
+    let lines = random_lines(random, cores * slot);
     let nodes = random.from(1, 12);
     for own in 0..nodes {
         let loose = random.once_in(9);
         let kind = if own == 0 && !loose { random.from(0, 3) } else { random.from(0, 9) };
         if !loose {
-            image.extend(random_node(random, &SMALL, own, kind, slot, cores * slot));
+            image.extend(random_node(random, &SMALL, own, kind, (slot, cores * slot, lines)));
             continue;
         }
         let near = |random: &mut Random| (own + random.below(3)).saturating_sub(1) as u16;
-        image.extend(match random.below(6) {
+        image.extend(match random.below(7) {
             0 => plain(random.below(200) as u16, random.below(200) as u16),
             1 => bus_block(random.below(4) as u8, random.below(slot + 2) as u8, random.below(slot + 2) as u8),
             2 => sequence(&[near(random), near(random)]),
             3 => branch(&[near(random), 0]),
             4 => looped(random.below(4) as u16, random.below(4) as u16, near(random)),
-            _ => field(random.below(9) as u8, &vec![random.below(3) as u8; random.below(9) as usize]),
+            5 => {
+                let (lowest, highest) = (random.below(slot + 2) as u8, random.below(slot + 2) as u8);
+                fetch(random.below(5) as u8, lowest, highest, random.below(200) as u16)
+            }
+            _ => field(random.below(12) as u8, &vec![random.below(3) as u8; random.below(9) as usize]),
         });
     }
     image
@@ -384,7 +464,10 @@ pub fn all(seed: u64, wanted: usize) -> Vec<Case> {
     let mut random = Random::new(seed);
     let mut all = Cases::default();
     cases::worked(&mut all);
+    cases::worked_lines(&mut all);
     cases::limits(&mut all);
+    cases::limits_of_lines(&mut all);
+    cases::number_of_lines(&mut all);
     cases::depth_and_visits(&mut all);
     cases::order(&mut all);
     cases::sizes(&mut all);
@@ -393,17 +476,17 @@ pub fn all(seed: u64, wanted: usize) -> Vec<Case> {
     let mut models: Vec<Vec<u8>> = all
         .list
         .iter()
-        .filter(|case| case.category == "worked" && case.image.len() < 60)
+        .filter(|case| ["worked", "worked lines"].contains(&case.category) && case.image.len() < 60)
         .map(|case| case.image.clone())
         .collect();
     models.retain(|image| judge(image).is_ok() && work(image) <= MOST_WORK);
-    while models.len() < 28 {
+    while models.len() < 60 {
         let (image, task) = valid_task(&mut random, &SMALL);
         if task.nodes.len() >= 4 {
             models.push(image);
         }
     }
-    let spread = models.len() / 12 + 1;
+    let spread = models.len() / 16 + 1;
     for model in models.iter().step_by(spread) {
         for length in 0..model.len() {
             all.add_quick("truncated", model[..length].to_vec());
@@ -419,7 +502,7 @@ pub fn all(seed: u64, wanted: usize) -> Vec<Case> {
             }
         }
     }
-    for model in &models {
+    for model in models.iter().step_by(2) {
         for junk in [1, 2, 3, 7, 50] {
             for byte in [0, 3, 255] {
                 let mut image = model.clone();
@@ -437,12 +520,16 @@ pub fn all(seed: u64, wanted: usize) -> Vec<Case> {
             bus(2, 3, random.below(2) as u8),
             starts(&[random.below(6) as u8]),
             plain(65_530, 65_535),
-            bus_block(random.from(1, 2) as u8, 1, access),
+            if random.once_in(2) { fetch(3, 1, access, 65_534) } else { bus_block(random.from(1, 2) as u8, 1, access) },
             plain(random.from(65_500, 65_535) as u16, 65_535),
             sequence(&children),
             looped(least, greatest, 3),
         ];
         all.add("long loops", image.concat(), Expected::Open);
+    }
+    for _ in 0..150 {
+        let image = overtaking(&mut random);
+        all.add_quick("long loops", image);
     }
 
     while all.list.len() < wanted {
@@ -454,6 +541,10 @@ pub fn all(seed: u64, wanted: usize) -> Vec<Case> {
             9..=11 => {
                 let (image, _) = valid_task(&mut random, &MIDDLE);
                 all.add("middle tasks", image, Expected::Accepted);
+            }
+            12 if random.once_in(3) => {
+                let image = many_lines(&mut random);
+                all.add_quick("many lines", image);
             }
             12 => {
                 let (image, _) = valid_task(&mut random, &LARGE);

@@ -86,6 +86,11 @@ impl Graph {
         all.map(|((core, waits), image)| Task { core: *core, time: tight(image), waits: waits.clone() }).collect()
     }
 
+    /// Tasks whose image has lines.
+    pub fn with_lines(&self) -> usize {
+        self.every.iter().filter(|image| image.lines() > 0).count()
+    }
+
     /// The task table with the tight figures as times.
     pub fn table(&self, listed: Listed) -> Vec<u64> {
         numbers(&self.tasks(listed))
@@ -103,8 +108,8 @@ pub struct Seen {
 }
 
 /// Whole runs of a graph on one clock, each begun at a random cycle of it; where one start is listed, at a cycle with that offset.
-/// Each task starts "as soon as those have ended", its run begins at the offset that the clock shows then, listed or not, and takes
-/// what it takes. It is held to these finishes.
+/// Each task starts "as soon as those have ended", its run begins at the offset that the clock shows then, listed or not, with no
+/// line fetched, and takes what it takes. It is held to these finishes.
 pub fn run(graph: &Graph, listed: Listed, finishes: &[u64], random: &mut Random) -> Seen {
     let mut seen = Seen::default();
     let (images, tasks) = (graph.images(listed), graph.tasks(listed));

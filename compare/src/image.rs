@@ -1,8 +1,12 @@
-//! Judges a task image: document 01, "The task image" and "When no figure is given".
+//! Judges a task image: document 01, "The task image" and "When no figure is given", and change request W9.
 
 pub const MOST_NODES: usize = 256;
 pub const MOST_DEPTH: u64 = 24;
 pub const MOST_VISITS: u64 = 100_000;
+/// of the period × 2 to the number of lines
+const MOST_COMBINATIONS: u64 = 1_024;
+/// "a line number 0 to 3"
+pub const MOST_LINES: usize = 4;
 
 /// The bus and the task's core on it.
 #[derive(Clone, PartialEq, Debug, Default)]
@@ -19,11 +23,12 @@ impl Bus {
     }
 }
 
-/// "A node is one of five kinds, each with its own numbers."
+/// "A node is one of five kinds, each with its own numbers." The sixth is the block with tag 10, of code fetched once.
 #[derive(Clone, PartialEq, Debug)]
 pub enum Node {
     Plain { lowest: u64, highest: u64 },
     Access { may: bool, lowest: u64, highest: u64 },
+    Fetch { line: usize, lowest: u64, highest: u64, hit: u64 },
     Sequence { children: Vec<usize> },
     Branch { arms: Vec<usize> },
     Loop { least: u64, greatest: u64, body: usize },
@@ -41,6 +46,15 @@ impl Task {
     pub fn entry(&self) -> usize {
         self.nodes.len() - 1
     }
+
+    /// "Lines are one more than the highest line number in the image, or 0."
+    pub fn lines(&self) -> u32 {
+        let numbers = self.nodes.iter().filter_map(|node| match node {
+            Node::Fetch { line, .. } => Some(*line as u32),
+            _ => None,
+        });
+        numbers.max().map_or(0, |highest| highest + 1)
+    }
 }
 
 #[derive(Clone, Copy, PartialEq, Eq, Debug)]
@@ -49,7 +63,8 @@ pub struct Refusal {
     pub place: u64,
 }
 
-/// "Fields are judged from the front. Within one the order is: head cut, 2, 3, 4, body cut, 5, 6. Then 7, 8, 9, 10."
+/// "Fields are judged from the front. Within one the order is: head cut, 2, 3, 4, body cut, 5, 6. Then 7, 8, 9, 10." And
+/// 18 "judged after 9 and before 10".
 pub fn judge(image: &[u8]) -> Result<Task, Refusal> {
     let mut task = Task::default();
     let mut place = 0;
@@ -62,11 +77,11 @@ pub fn judge(image: &[u8]) -> Result<Task, Refusal> {
             return refuse(1);
         }
         let tag = image[place];
-        // "the first field's tag is not 1, the second's not 2, or a later one's not 3 to 7"
+        // "the first field's tag is not 1, the second's not 2, or a later one's not 3 to 7", nor 10
         let tag_fits = match fields {
             0 => tag == 1,
             1 => tag == 2,
-            _ => (3..=7).contains(&tag),
+            _ => (3..=7).contains(&tag) || tag == 10,
         };
         if !tag_fits {
             return refuse(2);
@@ -112,6 +127,10 @@ pub fn judge(image: &[u8]) -> Result<Task, Refusal> {
     if visits(&task.nodes)[task.entry()] > MOST_VISITS {
         return refuse(9);
     }
+    // "period × 2 to the number of lines exceeds 1,024"
+    if task.bus.period() * 2u64.pow(task.lines()) > MOST_COMBINATIONS {
+        return refuse(18);
+    }
     Ok(task)
 }
 
@@ -128,6 +147,7 @@ fn length_in_row(tag: u8, length: usize) -> bool {
         5 => (2..=32).contains(&length) && length % 2 == 0,
         6 => (4..=16).contains(&length) && length % 2 == 0,
         7 => length == 6,
+        10 => length == 5,
         _ => false,
     }
 }
@@ -156,6 +176,10 @@ fn values_in_row(tag: u8, body: &[u8], bus: &Bus) -> bool {
             let (least, greatest) = (two_bytes(body), two_bytes(&body[2..]));
             least <= greatest && greatest <= 10_000
         }
+        10 => {
+            let (line, lowest, highest) = (usize::from(body[0]), u64::from(body[1]), u64::from(body[2]));
+            line < MOST_LINES && 1 <= lowest && lowest <= highest && highest <= bus.slot
+        }
         _ => true,
     }
 }
@@ -176,6 +200,10 @@ fn node(tag: u8, body: &[u8]) -> Node {
         4 => Node::Access { may: body[0] == 1, lowest: body[1].into(), highest: body[2].into() },
         5 => Node::Sequence { children: named },
         6 => Node::Branch { arms: named },
+        10 => {
+            let (lowest, highest) = (body[1].into(), body[2].into());
+            Node::Fetch { line: body[0].into(), lowest, highest, hit: two_bytes(&body[3..]) }
+        }
         _ => Node::Loop { least: two_bytes(body), greatest: two_bytes(&body[2..]), body: named[0] },
     }
 }
@@ -185,7 +213,7 @@ pub fn depths(nodes: &[Node]) -> Vec<u64> {
     let mut depths: Vec<u64> = Vec::new();
     for node in nodes {
         let depth = match node {
-            Node::Plain { .. } | Node::Access { .. } => 1,
+            Node::Plain { .. } | Node::Access { .. } | Node::Fetch { .. } => 1,
             Node::Sequence { children: named } | Node::Branch { arms: named } => {
                 1 + named.iter().map(|&child| depths[child]).max().unwrap_or(0)
             }
@@ -202,7 +230,7 @@ pub fn visits(nodes: &[Node]) -> Vec<u64> {
     let mut visits: Vec<u64> = Vec::new();
     for node in nodes {
         let all = match node {
-            Node::Plain { .. } | Node::Access { .. } => 1,
+            Node::Plain { .. } | Node::Access { .. } | Node::Fetch { .. } => 1,
             Node::Sequence { children: named } | Node::Branch { arms: named } => {
                 1 + named.iter().map(|&child| visits[child]).sum::<u64>()
             }

@@ -1,9 +1,14 @@
-//! Both figures offset by offset: document 01, "Both figures".
+//! Both figures offset by offset: document 01, "Both figures", and change request W9.
 
-use crate::image::{Bus, Node, Task};
+use crate::image::{Bus, Node, Task, MOST_LINES};
+use std::collections::BTreeMap;
 
 /// For each offset below P its longest time, or none.
 pub type Times = Vec<Option<u64>>;
+/// For each line number whether the line is fetched.
+type Lines = [bool; MOST_LINES];
+/// The times of the runs with the same lines fetched, for each such combination that some run has.
+type Combinations = BTreeMap<Lines, Times>;
 /// For each offset below P whether it is in the set.
 pub type Set = Vec<bool>;
 
@@ -19,44 +24,58 @@ pub fn wait(bus: &Bus, offset: u64, e: u64) -> u64 {
     }
 }
 
-/// The cycles of each execution of a block from this offset.
-fn executions(bus: &Bus, block: &Node, offset: u64) -> Vec<u64> {
+/// The cycles of each execution of a block from this offset. For a block with tag 10 that is the first execution or a later one, as the
+/// lines fetched say, and both where nothing is known of lines.
+fn executions(bus: &Bus, block: &Node, offset: u64, fetched: Option<&Lines>) -> Vec<u64> {
+    let accesses = |lowest: u64, highest: u64| (lowest..=highest).map(|e| wait(bus, offset, e) + e);
     match block {
         Node::Plain { lowest, highest } => (*lowest..=*highest).collect(),
-        Node::Access { may, lowest, highest } => {
-            let accesses = (*lowest..=*highest).map(|e| wait(bus, offset, e) + e);
-            if *may {
-                accesses.chain(*lowest..=*highest).collect()
-            } else {
-                accesses.collect()
-            }
-        }
+        Node::Access { may: true, lowest, highest } => accesses(*lowest, *highest).chain(*lowest..=*highest).collect(),
+        Node::Access { may: false, lowest, highest } => accesses(*lowest, *highest).collect(),
+        Node::Fetch { line, lowest, highest, hit } => match fetched.map(|lines| lines[*line]) {
+            Some(false) => accesses(*lowest, *highest).collect(),
+            Some(true) => vec![*hit],
+            None => accesses(*lowest, *highest).chain([*hit]).collect(),
+        },
         _ => unreachable!("no block"),
     }
 }
 
 /// "Tight: the longest time of any run from any listed start. Each of the ... offsets carries its longest time or none, from
-/// node to node." The table after the entry.
+/// node to node." With lines, "each combination of them with an offset carries its longest time". The table after the entry: for each
+/// offset the longest time over all combinations.
 pub fn tight(task: &Task) -> Times {
+    let mut all = vec![None; task.bus.period() as usize];
+    for times in combinations(task).values() {
+        join(&mut all, times);
+    }
+    all
+}
+
+/// "the lines fetched, at first none"
+fn combinations(task: &Task) -> Combinations {
     let mut times = vec![None; task.bus.period() as usize];
     for &start in &task.starts {
         times[start as usize] = Some(0);
     }
-    longest(task, task.entry(), &times)
+    longest(task, task.entry(), &BTreeMap::from([([false; MOST_LINES], times)]))
 }
 
-fn longest(task: &Task, node: usize, entry: &Times) -> Times {
-    let nothing: Times = vec![None; entry.len()];
+fn longest(task: &Task, node: usize, entry: &Combinations) -> Combinations {
+    let mut exits = Combinations::new();
     match &task.nodes[node] {
-        block @ (Node::Plain { .. } | Node::Access { .. }) => {
-            let mut exits = nothing;
-            for (offset, time) in entry.iter().enumerate() {
-                if let Some(time) = time {
-                    for cycles in executions(&task.bus, block, offset as u64) {
-                        let end = (offset as u64 + cycles) % task.bus.period();
-                        keep_longer(&mut exits[end as usize], Some(time + cycles));
+        block @ (Node::Plain { .. } | Node::Access { .. } | Node::Fetch { .. }) => {
+            for (lines, times) in entry {
+                let mut after = vec![None; times.len()];
+                for (offset, time) in times.iter().enumerate() {
+                    if let Some(time) = time {
+                        for cycles in executions(&task.bus, block, offset as u64, Some(lines)) {
+                            let end = (offset as u64 + cycles) % task.bus.period();
+                            keep_longer(&mut after[end as usize], Some(time + cycles));
+                        }
                     }
                 }
+                join_one(&mut exits, with_line(lines, block), &after);
             }
             exits
         }
@@ -68,26 +87,43 @@ fn longest(task: &Task, node: usize, entry: &Times) -> Times {
             times
         }
         Node::Branch { arms } => {
-            let mut exits = nothing;
             for &arm in arms {
-                join(&mut exits, &longest(task, arm, entry));
+                join_all(&mut exits, &longest(task, arm, entry));
             }
             exits
         }
         Node::Loop { least, greatest, body } => {
-            let mut exits = nothing;
             let mut times = entry.clone();
             for k in 0..=*greatest {
                 if k > 0 {
                     times = longest(task, *body, &times);
                 }
                 if k >= *least {
-                    join(&mut exits, &times);
+                    join_all(&mut exits, &times);
                 }
             }
             exits
         }
     }
+}
+
+/// The lines fetched after an execution of this block.
+fn with_line(lines: &Lines, block: &Node) -> Lines {
+    let mut after = *lines;
+    if let Node::Fetch { line, .. } = block {
+        after[*line] = true;
+    }
+    after
+}
+
+fn join_all(into: &mut Combinations, from: &Combinations) {
+    for (lines, times) in from {
+        join_one(into, *lines, times);
+    }
+}
+
+fn join_one(into: &mut Combinations, lines: Lines, times: &Times) {
+    join(into.entry(lines).or_insert_with(|| vec![None; times.len()]), times);
 }
 
 fn join(into: &mut Times, from: &Times) {
@@ -115,11 +151,12 @@ fn cost(task: &Task, node: usize, entry: &Set) -> (u64, Set) {
     match &task.nodes[node] {
         // "A plain block costs its highest duration. A bus block costs the largest wait + e over its entry offsets and
         // durations. The exits of a block are ... the offsets at which its executions from all its entry offsets end."
-        block @ (Node::Plain { .. } | Node::Access { .. }) => {
+        // "The published method joins the exits of both each time and costs the larger."
+        block @ (Node::Plain { .. } | Node::Access { .. } | Node::Fetch { .. }) => {
             let mut largest = 0;
             let mut exits = nothing;
             for offset in members(entry) {
-                for cycles in executions(&task.bus, block, offset) {
+                for cycles in executions(&task.bus, block, offset, None) {
                     largest = cycles.max(largest);
                     exits[((offset + cycles) % task.bus.period()) as usize] = true;
                 }

@@ -1,11 +1,12 @@
-//! Enumerates runs by the clock, choice by choice and cycle by cycle, and merges nothing: document 01, "The bus and a run".
+//! Enumerates runs by the clock, choice by choice and cycle by cycle, and merges nothing: document 01, "The bus and a run", and change
+//! request W9, "A run's state gains the lines fetched, at first none".
 //!
 //! Each run is executed anew from its start. A list of choices says what it takes wherever a choice is open; after the run
 //! the last choice that has another possibility moves on by one, and those behind it are taken from the first again.
 //! `one` executes a single run, its choices taken as the caller says.
 
 use crate::image::{Bus, Node, Task};
-use std::collections::BTreeMap;
+use std::collections::{BTreeMap, BTreeSet};
 
 /// What all runs together leave.
 pub struct Runs {
@@ -24,6 +25,7 @@ struct Run<'a> {
     task: &'a Task,
     offset: u64,
     count: u64,
+    fetched: BTreeSet<usize>,
     choices: Vec<Choice>,
     next: usize,
     /// what is taken at first where so many possibilities are open
@@ -62,7 +64,7 @@ pub fn one(task: &Task, offset: u64, choose: &mut dyn FnMut(u64) -> u64, steps: 
 
 impl<'a> Run<'a> {
     fn new(task: &'a Task, first: &'a mut dyn FnMut(u64) -> u64, steps: u64) -> Run<'a> {
-        Run { task, offset: 0, count: 0, choices: Vec::new(), next: 0, first, steps_left: steps }
+        Run { task, offset: 0, count: 0, fetched: BTreeSet::new(), choices: Vec::new(), next: 0, first, steps_left: steps }
     }
 
     fn whole(&mut self) -> Result<(), Spent> {
@@ -75,6 +77,7 @@ impl<'a> Run<'a> {
     fn from(&mut self, start: u64) -> Result<(), Spent> {
         self.offset = start;
         self.count = 0;
+        self.fetched.clear();
         self.execute(self.task.entry())
     }
 
@@ -95,6 +98,15 @@ impl<'a> Run<'a> {
                     self.pass(duration)
                 } else {
                     self.access(duration)
+                }
+            }
+            // "Its first execution in a run, counted over all nodes with that line, always accesses; later ones pass the hit time."
+            Node::Fetch { line, lowest, highest, hit } => {
+                if self.fetched.insert(*line) {
+                    let duration = lowest + self.choose(highest - lowest + 1)?;
+                    self.access(duration)
+                } else {
+                    self.pass(*hit)
                 }
             }
             // "A sequence executes its children in order"

@@ -28,6 +28,9 @@ struct Node {
     place: usize,
     /// kind of a bus block
     kind: u8,
+    /// line and hit time of a block with tag 10
+    line: u64,
+    hit: u64,
     /// what a fault let through until the entry reaches it
     refusal: Option<Refusal>,
     /// durations, or counts of a loop
@@ -51,8 +54,13 @@ impl Image {
     }
 }
 
-type Times = BTreeMap<u64, u64>;
+/// Of offsets, of lines, or of node numbers.
 type Set = BTreeSet<u64>;
+/// An offset and the lines fetched.
+type State = (u64, Set);
+type Times = BTreeMap<State, u64>;
+/// Offsets with their times, as they are listed.
+type Exits = BTreeMap<u64, u64>;
 type Refusal = (u64, usize);
 
 fn main() {
@@ -144,7 +152,7 @@ fn answer_lines([no_last_line_feed, line_too_many, bad_status]: [bool; 3], answe
 }
 
 fn read_input(fault: &Fault) -> Vec<u8> {
-    let most = if fault.is("stops-at-9197") { 9_197 } else { 16_384 };
+    let most = if fault.is("stops-at-9198") { 9_198 } else { 16_384 };
     let mut buffer = vec![0; most];
     let mut filled = 0;
     // standard input is read directly, without a buffer that would read more
@@ -198,6 +206,17 @@ enum Check {
     Forward,
 }
 
+/// Whether a field with this tag may be that of a node.
+fn node_tag(fault: &Fault, tag: u8) -> bool {
+    match tag {
+        3..=7 => true,
+        8 | 9 => fault.is("tags-to-10"),
+        10 => !fault.is("tag-10-refused"),
+        11 => fault.is("tag-11-accepted"),
+        _ => false,
+    }
+}
+
 fn judge(fault: &Fault, bytes: &[u8]) -> Result<Image, Refusal> {
     use Check::*;
     let order = match fault.0.as_str() {
@@ -217,8 +236,8 @@ fn judge(fault: &Fault, bytes: &[u8]) -> Result<Image, Refusal> {
         let tag = rest[0];
         let tag_good = match number {
             0 => tag == 1,
-            1 => tag == 2 || fault.is("second-tag-free") && (3..8).contains(&tag),
-            _ => (3..8).contains(&tag),
+            1 => tag == 2 || fault.is("second-tag-free") && node_tag(fault, tag),
+            _ => node_tag(fault, tag),
         };
         if rest.len() < 3 {
             if fault.is("trailing-ignored") && !image.nodes.is_empty() {
@@ -243,6 +262,7 @@ fn judge(fault: &Fault, bytes: &[u8]) -> Result<Image, Refusal> {
         for check in order {
             let (refusal, holds) = match check {
                 Tag => (2, !tag_good),
+                Full if tag == 10 && fault.is("fetch-257-accepted") => (3, false),
                 Full => (3, number >= 2 && image.nodes.len() >= nodes_most),
                 Length => (4, !length_good(fault, tag, length)),
                 Cut => (1, there < length),
@@ -265,7 +285,7 @@ fn judge(fault: &Fault, bytes: &[u8]) -> Result<Image, Refusal> {
             2 => image.starts = body[..length].iter().map(|&start| start.into()).collect(),
             _ => {
                 let (low, high) = match tag {
-                    4 => (body[1].into(), body[2].into()),
+                    4 | 10 => (body[1].into(), body[2].into()),
                     _ => (two_bytes(fault, &body), two_bytes(fault, &body[2..])),
                 };
                 let own = image.nodes.len();
@@ -273,7 +293,15 @@ fn judge(fault: &Fault, bytes: &[u8]) -> Result<Image, Refusal> {
                 if put_off.is_some() {
                     children.retain(|&child| child < own);
                 }
-                image.nodes.push(Node { tag, place, kind, refusal: put_off, low, high, children });
+                let hit = match fault.0.as_str() {
+                    "hit-low-byte-first" => body[4] as u64 * 256 + body[3] as u64,
+                    "hit-in-a-byte" => body[4].into(),
+                    _ => two_bytes(fault, &body[3..]),
+                };
+                image.nodes.push(Node { tag, place, kind, line: kind.into(), hit, refusal: put_off, low, high, children });
+                if fault.is("lines-at-the-field") && wide(fault, &image, &Set::new()) {
+                    return Err((18, place));
+                }
             }
         }
         place += 3 + length;
@@ -296,17 +324,61 @@ fn judge(fault: &Fault, bytes: &[u8]) -> Result<Image, Refusal> {
         return Err(refusal);
     }
     let place = if fault.is("place-of-entry") { image.nodes[image.nodes.len() - 1].place } else { bytes.len() };
-    let (deep, long) = (deep(fault, &image), long(fault, &image));
-    if long && fault.is("long-before-deep") {
-        return Err((9, place));
+    let (deep, long, wide) = (deep(fault, &image), long(fault, &image), wide(fault, &image, &reached));
+    let lines = (
+        match fault.0.as_str() {
+            "lines-as-value" => 5,
+            "lines-as-table" => 10,
+            _ => 18,
+        },
+        match fault.0.as_str() {
+            "lines-place-0" => 0,
+            "lines-place-entry" => image.nodes[image.nodes.len() - 1].place,
+            "lines-place-node" => {
+                image.nodes.iter().filter(|node| node.tag == 10).max_by_key(|node| node.line).map_or(0, |node| node.place)
+            }
+            _ => bytes.len(),
+        },
+    );
+    let order = match fault.0.as_str() {
+        "long-before-deep" => [(long, (9, place)), (deep, (8, place)), (wide, lines)],
+        "lines-before-long" => [(deep, (8, place)), (wide, lines), (long, (9, place))],
+        "lines-before-deep" => [(wide, lines), (deep, (8, place)), (long, (9, place))],
+        _ => [(deep, (8, place)), (long, (9, place)), (wide, lines)],
+    };
+    order.into_iter().find(|(holds, _)| *holds).map_or(Ok(image), |(_, refusal)| Err(refusal))
+}
+
+/// Whether there are too many lines for the period.
+fn wide(fault: &Fault, image: &Image, reached: &Set) -> bool {
+    let all = image.nodes.iter().enumerate().filter(|(_, node)| node.tag == 10);
+    let numbers: Vec<u64> = all
+        .filter(|(number, _)| reached.contains(&(*number as u64)) || !fault.is("lines-reached-only"))
+        .map(|(_, node)| node.line)
+        .collect();
+    let lines = match fault.0.as_str() {
+        "lines-distinct" => numbers.iter().collect::<BTreeSet<_>>().len() as u64,
+        "lines-of-nodes" => numbers.len() as u64,
+        "lines-highest" => numbers.iter().max().copied().unwrap_or(0),
+        "lines-of-first" => numbers.first().map_or(0, |line| line + 1),
+        "lines-of-last" => numbers.last().map_or(0, |line| line + 1),
+        "lines-4-always" => numbers.first().map_or(0, |_| 4),
+        _ => numbers.iter().max().map_or(0, |line| line + 1),
+    };
+    let product = match fault.0.as_str() {
+        "lines-doubled" => image.period() * 2 * lines.max(1),
+        "lines-in-a-byte" => (image.period() << lines) % 256,
+        "lines-of-slot" => image.slot << lines,
+        _ => image.period() << lines.min(40),
+    };
+    match fault.0.as_str() {
+        "lines-unjudged" => false,
+        "lines-1024-refused" => product >= 1_024 && lines > 0,
+        "lines-1032-accepted" => product > 1_032,
+        "lines-1040-accepted" => product > 1_040,
+        "lines-1020-refused" => product >= 1_020 && lines > 0,
+        _ => product > 1_024,
     }
-    if deep {
-        return Err((8, place));
-    }
-    if long {
-        return Err((9, place));
-    }
-    Ok(image)
 }
 
 fn length_good(fault: &Fault, tag: u8, length: usize) -> bool {
@@ -320,6 +392,10 @@ fn length_good(fault: &Fault, tag: u8, length: usize) -> bool {
         6 if fault.is("one-arm") => length >= 2 && length <= 16 && length % 2 == 0,
         6 => length >= 4 && length <= 16 && length % 2 == 0,
         7 => length == 6,
+        10 if fault.is("fetch-length-4") => length == 4 || length == 5,
+        10 if fault.is("fetch-length-6") => length == 5 || length == 6,
+        10 if fault.is("fetch-length-3") => length == 3,
+        10 => length == 5,
         _ => false,
     }
 }
@@ -352,6 +428,27 @@ fn value_good(fault: &Fault, image: &Image, tag: u8, body: &[u8], length: usize)
             kind && (one(1) >= 1 || fault.is("duration-0"))
                 && one(1) <= one(2)
                 && one(2) <= image.slot + u64::from(fault.is("duration-above-slot"))
+        }
+        10 => {
+            let line = match fault.0.as_str() {
+                "line-4-accepted" => one(0) <= 4,
+                "line-3-refused" => one(0) < 3,
+                "line-0-refused" => one(0) >= 1 && one(0) <= 3,
+                "line-in-two-bits" => true,
+                _ => one(0) < 4,
+            };
+            let hit = match fault.0.as_str() {
+                "hit-0-refused" => two(3) > 0,
+                "hit-65535-refused" => two(3) < 65_535,
+                "hit-above-slot-refused" => two(3) <= image.slot,
+                "hit-10001-refused" => two(3) <= 10_000,
+                "hit-above-lowest-refused" => two(3) <= one(1),
+                _ => true,
+            };
+            let range = (one(1) >= 1 || fault.is("fetch-duration-0"))
+                && (one(1) <= one(2) || fault.is("fetch-reversed"))
+                && one(2) <= image.slot + u64::from(fault.is("fetch-above-slot"));
+            line && hit && (range || fault.is("fetch-range-unjudged"))
         }
         7 => {
             (two(0) <= two(2) || fault.is("least-above-greatest"))
@@ -394,7 +491,11 @@ fn deep(fault: &Fault, image: &Image) -> bool {
     for node in &image.nodes {
         let idle = node.tag == 7 && node.high == 0 && fault.is("depth-without-idle-body");
         let below = node.children.iter().map(|&child| of_child(&depths, child)).max().unwrap_or(0);
-        let depth = 1 + if idle { 0 } else { below };
+        let depth = match fault.0.as_str() {
+            "fetch-depth-2" if node.tag == 10 => 2,
+            "fetch-depth-0" if node.tag == 10 => 0,
+            _ => 1 + if idle { 0 } else { below },
+        };
         depths.push(if fault.is("depth-in-a-byte") { depth % 256 } else { depth });
     }
     if fault.is("depth-of-all") {
@@ -425,7 +526,11 @@ fn long(fault: &Fault, image: &Image) -> bool {
             6 if fault.is("visits-of-largest-arm") => largest,
             _ => sum,
         };
-        let all = below.wrapping_add(1);
+        let all = match fault.0.as_str() {
+            "fetch-visits-2" if node.tag == 10 => 2,
+            "fetch-visits-0" if node.tag == 10 => 0,
+            _ => below.wrapping_add(1),
+        };
         visits.push(match fault.0.as_str() {
             "visits-32-bit" => all % (1 << 32),
             "visits-64-bit" => all,
@@ -485,8 +590,117 @@ fn cycles(fault: &Fault, image: &Image, node: &Node, offset: u64) -> Vec<u64> {
     all
 }
 
-fn keep(fault: &Fault, times: &mut Times, offset: u64, time: u64) {
-    let kept = times.entry(offset).or_insert(time);
+/// The cycles that executions of a block with tag 10 take in a state, each with the lines that are fetched after it.
+fn fetches(fault: &Fault, image: &Image, number: usize, (offset, lines): &State) -> Vec<(u64, Set)> {
+    let node = &image.nodes[number];
+    let line = match fault.0.as_str() {
+        "line-per-node" => number as u64,
+        "line-ignored" => 0,
+        "line-in-one-bit" => node.line % 2,
+        "line-in-two-bits" => node.line % 4,
+        _ => node.line,
+    };
+    let mut of_line = image.nodes.iter().filter(|other| other.tag == 10 && other.line == node.line);
+    let hit = match fault.0.as_str() {
+        "hit-of-first-node" => of_line.next().map_or(0, |first| first.hit),
+        "hit-of-last-node" => of_line.last().map_or(0, |last| last.hit),
+        "hit-in-period" => node.hit % image.period(),
+        "hit-one-more" => node.hit + 1,
+        _ => node.hit,
+    };
+    let (low, high) = match fault.0.as_str() {
+        "miss-lowest-only" => (node.low, node.low),
+        "miss-highest-only" => (node.high, node.high),
+        _ => (node.low, node.high),
+    };
+    let waited = |e: u64| wait(fault, image, *offset, e);
+    let known = lines.contains(&line) || fault.is("hit-always") || fault.is("line-0-known") && line == 0;
+    if known {
+        let all: Vec<u64> = match fault.0.as_str() {
+            "hit-passes-duration" => (low..=high).collect(),
+            "hit-accesses" => vec![waited(hit) + hit],
+            "hit-and-access" => (low..=high).map(|e| waited(e) + e + hit).collect(),
+            "hit-or-access" => (low..=high).map(|e| waited(e) + e).chain([hit]).collect(),
+            "hit-waits" => vec![waited(low) + hit],
+            _ => vec![hit],
+        };
+        let mut after = lines.clone();
+        if fault.is("hit-drops-line") {
+            after.remove(&line);
+        }
+        return all.into_iter().map(|cycles| (cycles, after.clone())).collect();
+    }
+    let mut all = Vec::new();
+    for e in low..=high {
+        let cycles = match fault.0.as_str() {
+            "miss-without-wait" => vec![e],
+            "miss-and-hit" => vec![waited(e) + e + hit],
+            "miss-may-pass" => vec![e, waited(e) + e],
+            "miss-may-hit" => vec![hit, waited(e) + e],
+            "miss-waits-for-lowest" => vec![waited(low) + e],
+            _ => vec![waited(e) + e],
+        };
+        let kept = match fault.0.as_str() {
+            "miss-always" => false,
+            "line-0-not-kept" => line != 0,
+            "lines-2-kept" => line < 2,
+            "line-3-not-kept" => line != 3,
+            "fetched-after-wait" => waited(e) > 0,
+            "fetched-without-wait" => waited(e) == 0,
+            _ => true,
+        };
+        let mut after = lines.clone();
+        if fault.is("one-line-kept") {
+            after.clear();
+        }
+        if kept {
+            after.insert(line);
+        }
+        all.extend(cycles.into_iter().map(|cycles| (cycles, after.clone())));
+    }
+    all
+}
+
+/// What a fault makes of the lines where runs meet at an offset.
+fn meet(fault: &Fault, times: Times) -> Times {
+    match fault.0.as_str() {
+        "lines-of-longest" | "lines-united" | "lines-common" => {}
+        _ => return times,
+    }
+    let mut met: BTreeMap<u64, (Set, u64)> = BTreeMap::new();
+    for ((offset, lines), time) in times {
+        let Some(kept) = met.get_mut(&offset) else {
+            met.insert(offset, (lines, time));
+            continue;
+        };
+        match fault.0.as_str() {
+            "lines-united" => kept.0.extend(&lines),
+            "lines-common" => kept.0.retain(|line| lines.contains(line)),
+            _ if time > kept.1 => kept.0 = lines,
+            _ => {}
+        }
+        kept.1 = time.max(kept.1);
+    }
+    met.into_iter().map(|(offset, (lines, time))| ((offset, lines), time)).collect()
+}
+
+/// The lines that some run has fetched.
+fn some_fetched(times: &Times) -> Set {
+    times.keys().flat_map(|(_, lines)| lines.iter().copied()).collect()
+}
+
+/// The times without the lines that nobody had fetched at the entry.
+fn forget(fault: &Fault, times: Times, entry: &Times) -> Times {
+    let before = some_fetched(entry);
+    let mut after = Times::new();
+    for ((offset, lines), time) in times {
+        keep(fault, &mut after, (offset, lines.intersection(&before).copied().collect()), time);
+    }
+    after
+}
+
+fn keep(fault: &Fault, times: &mut Times, state: State, time: u64) {
+    let kept = times.entry(state).or_insert(time);
     *kept = if fault.is("shorter-kept") { time.min(*kept) } else { time.max(*kept) };
 }
 
@@ -494,22 +708,49 @@ fn keep_slowest(fault: &Fault, times: Times) -> Times {
     if !fault.is("slowest-at-join") {
         return times;
     }
-    let slowest = times.iter().max_by_key(|&(_, &time)| time).map(|(&offset, &time)| (offset, time));
-    slowest.into_iter().collect()
+    times.into_iter().max_by_key(|(_, time)| *time).into_iter().collect()
 }
 
 fn execute(fault: &Fault, image: &Image, number: usize, entry: &Times) -> Times {
+    let times = meet(fault, execute_node(fault, image, number, entry));
+    let forgets = match image.nodes[number].tag {
+        5 => fault.is("sequence-forgets"),
+        6 => fault.is("branch-forgets"),
+        7 => fault.is("loop-forgets"),
+        _ => false,
+    };
+    if forgets {
+        forget(fault, times, entry)
+    } else {
+        times
+    }
+}
+
+fn execute_node(fault: &Fault, image: &Image, number: usize, entry: &Times) -> Times {
     let node = &image.nodes[number];
     let mut exits = Times::new();
     match node.tag {
         3 | 4 => {
             let worst = match fault.0.as_str() {
-                "block-worst-case" => entry.keys().flat_map(|&offset| cycles(fault, image, node, offset)).max(),
+                "block-worst-case" => entry.keys().flat_map(|(offset, _)| cycles(fault, image, node, *offset)).max(),
                 _ => None,
             };
-            for (&offset, &time) in entry {
-                for cycles in cycles(fault, image, node, offset) {
-                    keep(fault, &mut exits, (offset + cycles) % image.period(), time + worst.unwrap_or(cycles));
+            for ((offset, lines), &time) in entry {
+                let mut lines = lines.clone();
+                if node.tag == 4 && fault.is("bus-block-fetches") {
+                    lines.insert(0);
+                }
+                for cycles in cycles(fault, image, node, *offset) {
+                    let state = ((offset + cycles) % image.period(), lines.clone());
+                    keep(fault, &mut exits, state, time + worst.unwrap_or(cycles));
+                }
+            }
+            exits
+        }
+        10 => {
+            for (state, &time) in entry {
+                for (cycles, lines) in fetches(fault, image, number, state) {
+                    keep(fault, &mut exits, ((state.0 + cycles) % image.period(), lines), time + cycles);
                 }
             }
             exits
@@ -529,8 +770,13 @@ fn execute(fault: &Fault, image: &Image, number: usize, entry: &Times) -> Times 
         6 => {
             let arms = if fault.is("first-arm-only") { &node.children[..1] } else { &node.children };
             for &arm in arms.iter().filter(|&&arm| arm < number) {
-                for (offset, time) in execute(fault, image, arm, entry) {
-                    keep(fault, &mut exits, offset, time);
+                let mut entry = entry.clone();
+                if fault.is("arms-share-lines") {
+                    let earlier = some_fetched(&exits);
+                    entry = entry.into_iter().map(|((offset, lines), time)| ((offset, &lines | &earlier), time)).collect();
+                }
+                for (state, time) in execute(fault, image, arm, &entry) {
+                    keep(fault, &mut exits, state, time);
                 }
             }
             keep_slowest(fault, exits)
@@ -543,8 +789,8 @@ fn execute(fault: &Fault, image: &Image, number: usize, entry: &Times) -> Times 
             let inner = &image.nodes[body];
             if fault.is("choice-kept") && inner.tag == 6 {
                 for &arm in &inner.children {
-                    for (offset, time) in iterate(fault, node, entry, &mut |times| execute(fault, image, arm, times)) {
-                        keep(fault, &mut exits, offset, time);
+                    for (state, time) in iterate(fault, node, entry, &mut |times| execute(fault, image, arm, times)) {
+                        keep(fault, &mut exits, state, time);
                     }
                 }
                 return exits;
@@ -552,10 +798,13 @@ fn execute(fault: &Fault, image: &Image, number: usize, entry: &Times) -> Times 
             if fault.is("choice-kept") && inner.tag == 3 {
                 for duration in inner.low..=inner.high {
                     let mut step = |times: &Times| {
-                        times.iter().map(|(&o, &time)| ((o + duration) % image.period(), time + duration)).collect()
+                        let passed = |((o, lines), time): (&State, &u64)| {
+                            (((o + duration) % image.period(), lines.clone()), time + duration)
+                        };
+                        times.iter().map(passed).collect()
                     };
-                    for (offset, time) in iterate(fault, node, entry, &mut step) {
-                        keep(fault, &mut exits, offset, time);
+                    for (state, time) in iterate(fault, node, entry, &mut step) {
+                        keep(fault, &mut exits, state, time);
                     }
                 }
                 return exits;
@@ -573,8 +822,16 @@ fn iterate(fault: &Fault, node: &Node, entry: &Times, step: &mut dyn FnMut(&Time
         let longest = |times: &Times| times.values().copied().max().unwrap_or(0);
         let first = step(entry);
         let one = longest(&first).saturating_sub(longest(entry));
-        return first.into_iter().map(|(offset, time)| (offset, time + one * (node.high - 1))).collect();
+        return first.into_iter().map(|(state, time)| (state, time + one * (node.high - 1))).collect();
     }
+    // so many iterations with the same gain are taken for a loop that repeats
+    let repeats = match fault.0.as_str() {
+        "loop-gain-of-offsets" => 1,
+        "loop-gain-of-10-iterations" => 10,
+        "loop-gain-of-100-iterations" => 100,
+        _ => u64::MAX,
+    };
+    let mut same = (0, None);
     let permitted = |k: u64| match fault.0.as_str() {
         "greatest-only" => k == node.high,
         "fewer-count-too" => true,
@@ -582,27 +839,67 @@ fn iterate(fault: &Fault, node: &Node, entry: &Times, step: &mut dyn FnMut(&Time
         _ => k >= node.low || k == node.high,
     };
     for k in 0..=node.high {
+        let before = (k > 0 && repeats < u64::MAX).then(|| listed(fault, &times));
+        if k > 0 && fault.is("iteration-forgets") {
+            times = forget(fault, times, entry);
+        }
         if k > 0 {
             times = step(&times);
         }
-        if permitted(k) {
-            for (&offset, &time) in &times {
-                keep(fault, &mut exits, offset, time);
+        // what each of the iterations left adds, where a fault takes the last for one that repeats
+        let gained = before.and_then(|before| gained(&before, &listed(fault, &times)));
+        same = if gained.is_some() && gained == same.1 { (same.0 + 1, gained) } else { (1, gained) };
+        let gain = gained.filter(|_| same.0 >= repeats);
+        for j in k..=if gain.is_some() { node.high } else { k } {
+            if permitted(j) {
+                for (state, &time) in &times {
+                    keep(fault, &mut exits, state.clone(), time + gain.unwrap_or(0) * (j - k));
+                }
             }
+        }
+        if gain.is_some() {
+            break;
         }
     }
     exits
 }
 
-fn cost(fault: &Fault, image: &Image, number: usize, entry: &Set) -> (u64, Set) {
+/// By how much every time grew, where that is the same for all and the offsets are the same.
+fn gained(before: &Exits, after: &Exits) -> Option<u64> {
+    let gains: Set = after.iter().filter_map(|(offset, time)| time.checked_sub(*before.get(offset)?)).collect();
+    let same = before.keys().eq(after.keys()) && gains.len() == 1;
+    gains.into_iter().next().filter(|_| same)
+}
+
+/// The offsets at which runs end, each with its time.
+fn listed(fault: &Fault, times: &Times) -> Exits {
+    let most = times.keys().map(|(_, lines)| lines.len()).max().unwrap_or(0);
+    let mut exits = Exits::new();
+    for ((offset, lines), &time) in times {
+        if lines.len() < most && fault.is("listed-of-most-lines") || !lines.is_empty() && fault.is("listed-of-no-lines") {
+            continue;
+        }
+        let kept = exits.entry(*offset).or_insert(time);
+        *kept = match fault.0.as_str() {
+            "listed-of-first" => *kept,
+            "listed-of-last" => time,
+            "listed-of-shortest" => time.min(*kept),
+            _ => time.max(*kept),
+        };
+    }
+    exits
+}
+
+/// The published figure knows no lines: states have none, but for a fault.
+fn cost(fault: &Fault, image: &Image, number: usize, entry: &BTreeSet<State>) -> (u64, BTreeSet<State>) {
     let node = &image.nodes[number];
     match node.tag {
         3 | 4 => {
-            let mut exits = Set::new();
+            let mut exits = BTreeSet::new();
             let mut largest = 0;
-            for &offset in entry {
-                let all = cycles(fault, image, node, offset);
-                exits.extend(all.iter().map(|cycles| (offset + cycles) % image.period()));
+            for (offset, lines) in entry {
+                let all = cycles(fault, image, node, *offset);
+                exits.extend(all.iter().map(|cycles| ((offset + cycles) % image.period(), lines.clone())));
                 let longest = all.into_iter().max().unwrap_or(0);
                 largest = match fault.0.as_str() {
                     "published-highest-offset" => longest,
@@ -611,6 +908,42 @@ fn cost(fault: &Fault, image: &Image, number: usize, entry: &Set) -> (u64, Set) 
                 };
             }
             (largest, exits)
+        }
+        10 => {
+            let mut exits = BTreeSet::new();
+            // the largest of the accesses and of the hits
+            let (mut of_access, mut of_hit) = (0, 0);
+            for (offset, lines) in entry {
+                let mut accesses: Vec<u64> = (node.low..=node.high).map(|e| wait(fault, image, *offset, e) + e).collect();
+                let mut hits = vec![node.hit];
+                let mut after = lines.clone();
+                match fault.0.as_str() {
+                    "published-access-only" => hits.clear(),
+                    "published-hit-only" => accesses.clear(),
+                    "published-knows-lines" if !after.insert(node.line) => accesses.clear(),
+                    "published-knows-lines" => hits.clear(),
+                    "published-first-accesses" if after.insert(node.line) => hits.clear(),
+                    "published-later-hits" if !after.insert(node.line) => accesses.clear(),
+                    _ => {}
+                }
+                of_access = accesses.iter().copied().fold(of_access, u64::max);
+                of_hit = hits.iter().copied().fold(of_hit, u64::max);
+                match fault.0.as_str() {
+                    "published-exits-of-access" => hits.clear(),
+                    "published-exits-of-hit" => accesses.clear(),
+                    _ => {}
+                }
+                let ends = accesses.iter().chain(&hits).map(|cycles| (offset + cycles) % image.period());
+                exits.extend(ends.map(|end| (end, after.clone())));
+            }
+            let all = match fault.0.as_str() {
+                "published-cost-of-access" => of_access,
+                "published-cost-of-hit" => of_hit,
+                "published-cost-sum" => of_access + of_hit,
+                "published-cost-smaller" => of_access.min(of_hit),
+                _ => of_access.max(of_hit),
+            };
+            (all, exits)
         }
         5 => {
             let mut children = node.children.clone();
@@ -632,7 +965,7 @@ fn cost(fault: &Fault, image: &Image, number: usize, entry: &Set) -> (u64, Set) 
         }
         6 => {
             let arms = if fault.is("first-arm-only") { &node.children[..1] } else { &node.children };
-            let each: Vec<(u64, Set)> =
+            let each: Vec<(u64, BTreeSet<State>)> =
                 arms.iter().filter(|&&arm| arm < number).map(|&arm| cost(fault, image, arm, entry)).collect();
             let costs = each.iter().map(|(one, _)| *one);
             let all = if fault.is("published-arms-added") { costs.sum() } else { costs.max().unwrap_or(0) };
@@ -645,7 +978,7 @@ fn cost(fault: &Fault, image: &Image, number: usize, entry: &Set) -> (u64, Set) 
             }
             let mut sum = 0;
             let mut set = entry.clone();
-            let mut joined = Set::new();
+            let mut joined = BTreeSet::new();
             for k in 0..=node.high {
                 if k > 0 {
                     let (one, exits) = cost(fault, image, body, &set);
@@ -664,12 +997,24 @@ fn cost(fault: &Fault, image: &Image, number: usize, entry: &Set) -> (u64, Set) 
                     }
                 }
                 if k >= node.low {
-                    joined.extend(&set);
+                    joined.extend(set.iter().cloned());
                 }
             }
             (sum, joined)
         }
     }
+}
+
+/// The states after all runs, with no line fetched at first.
+fn from_starts(fault: &Fault, image: &Image, starts: &[u64]) -> Times {
+    execute(fault, image, image.nodes.len() - 1, &starts.iter().map(|&start| ((start, Set::new()), 0)).collect())
+}
+
+/// The published figure, and its exit set.
+fn published(fault: &Fault, image: &Image, starts: &[u64]) -> (u64, Set) {
+    let entry = starts.iter().map(|&start| (start, Set::new())).collect();
+    let (all, exits) = cost(fault, image, image.nodes.len() - 1, &entry);
+    (all, exits.into_iter().map(|(offset, _)| offset).collect())
 }
 
 fn figures(fault: &Fault, image: &Image) -> String {
@@ -678,10 +1023,20 @@ fn figures(fault: &Fault, image: &Image) -> String {
         "first-start-only" => image.starts[..1].to_vec(),
         _ => image.starts.clone(),
     };
-    let mut times = execute(fault, image, entry, &starts.iter().map(|&start| (start, 0)).collect());
-    let mut published = cost(fault, image, entry, &starts.iter().copied().collect()).0;
+    let mut after = from_starts(fault, image, &starts);
+    if fault.is("lines-over-starts") {
+        after = Times::new();
+        for &start in &starts {
+            let known = some_fetched(&after);
+            for (state, time) in execute(fault, image, entry, &[((start, known), 0)].into_iter().collect()) {
+                keep(fault, &mut after, state, time);
+            }
+        }
+    }
+    let mut times = listed(fault, &after);
+    let (mut published, set) = published(fault, image, &starts);
     if fault.is("published-per-start") {
-        let each = starts.iter().map(|&start| cost(fault, image, entry, &[start].into_iter().collect()).0);
+        let each = starts.iter().map(|&start| self::published(fault, image, &[start]).0);
         published = each.max().unwrap_or(0);
     }
     match fault.0.as_str() {
@@ -698,11 +1053,18 @@ fn figures(fault: &Fault, image: &Image) -> String {
     match fault.0.as_str() {
         "tight-as-published" => published = tight,
         "published-as-tight" => tight = published,
+        "tight-of-most-lines" => {
+            let most = after.keys().map(|(_, lines)| lines.len()).max();
+            let of_most = after.iter().filter(|((_, lines), _)| Some(lines.len()) == most);
+            tight = of_most.map(|(_, &time)| time).max().unwrap_or(0);
+        }
         _ => {}
     }
     let exits = match fault.0.as_str() {
         "exits-in-a-byte" => times.len() % 256,
         "exits-made-up" => image.period() as usize,
+        "exits-per-combination" => after.len(),
+        "exits-of-published" => set.len(),
         _ => times.len(),
     };
     let mut lines: Vec<String> = times.iter().map(|(offset, time)| format!("{offset} {time}\n")).collect();

@@ -1,7 +1,7 @@
 //! Edits for `wrong --edits`: a line for each, as tests/linked/edits.c writes them, by the bytes of the image. It shares no code with
 //! the second reading either.
 
-use crate::{answer_lines, cost, execute, judge, Fault, Image, Said, Times};
+use crate::{answer_lines, from_starts, judge, listed, published, Exits, Fault, Image, Said};
 
 struct Edit {
     bytes: Vec<u8>,
@@ -20,7 +20,7 @@ pub fn run(fault: &Fault) {
         let Some(edit) = read(line) else { return Said::Wrong };
         match edit.bytes.len() {
             0 if fault.is("edits-empty-unanswered") => Said::Nothing,
-            9_197 if fault.is("edits-killed-at-longest") => Said::Killed,
+            9_198 if fault.is("edits-killed-at-longest") => Said::Killed,
             _ => Said::Line(answer(fault, &edit)),
         }
     });
@@ -59,7 +59,7 @@ fn named(fault: &Fault, edit: &Edit) -> Option<(usize, u8)> {
         "edits-node-from-1" => at(edit.node.checked_sub(1)?),
         "edits-node-from-the-end" => at(count.checked_sub(1)?.checked_sub(edit.node)?),
         "edits-node-of-plain" => of(&[3], edit.node),
-        "edits-node-of-blocks" => of(&[3, 4], edit.node),
+        "edits-node-of-blocks" => of(&[3, 4, 10], edit.node),
         "edits-node-of-fields" => at(edit.node.checked_sub(2)?),
         "edits-node-in-7-bits" => at(if edit.node < 256 { edit.node % 128 } else { edit.node }),
         "edits-node-in-a-byte" => at(edit.node % 256),
@@ -96,6 +96,7 @@ fn block_good(fault: &Fault, edit: &Edit, (place, tag): (usize, u8)) -> bool {
         "edits-bus-block-edited" => tag == 3 || tag == 4,
         "edits-may-block-edited" => tag == 3 || tag == 4 && edit.bytes[place + 3] == 1,
         "edits-loop-edited" => tag == 3 || tag == 7,
+        "edits-fetch-edited" => tag == 3 || tag == 10,
         "edits-unreached-refused" => tag == 3 && reached(),
         "edits-entry-refused" => tag == 3 && place + 7 < edit.bytes.len(),
         _ => tag == 3,
@@ -154,6 +155,7 @@ fn table_good(fault: &Fault, edit: &Edit) -> bool {
 #[derive(Clone, Copy, PartialEq)]
 enum Check {
     Own,
+    Lines,
     Block,
     Value,
     Table,
@@ -163,20 +165,24 @@ enum Check {
 fn refusal(fault: &Fault, edit: &Edit, preview: bool) -> Option<(Check, Refusal)> {
     use Check::*;
     let order = match fault.0.as_str() {
-        "edits-value-before-block" => [Own, Value, Block, Table],
-        "edits-table-before-value" => [Own, Block, Table, Value],
-        "edits-table-before-block" => [Own, Table, Block, Value],
-        "edits-table-before-image" => [Table, Own, Block, Value],
-        "edits-block-before-image" => [Block, Own, Value, Table],
-        "edits-value-before-image" => [Value, Own, Block, Table],
-        _ => [Own, Block, Value, Table],
+        "edits-value-before-block" => [Own, Lines, Value, Block, Table],
+        "edits-table-before-value" => [Own, Lines, Block, Table, Value],
+        "edits-table-before-block" => [Own, Lines, Table, Block, Value],
+        "edits-table-before-image" => [Table, Own, Lines, Block, Value],
+        "edits-block-before-image" => [Block, Own, Lines, Value, Table],
+        "edits-value-before-image" => [Value, Own, Lines, Block, Table],
+        "edits-lines-after-block" => [Own, Block, Lines, Value, Table],
+        "edits-lines-after-value" => [Own, Block, Value, Lines, Table],
+        "edits-lines-after-table" => [Own, Block, Value, Table, Lines],
+        _ => [Own, Lines, Block, Value, Table],
     };
     let length = edit.bytes.len() as u64;
     let named = named(fault, edit);
     let field = named.map_or(length, |(place, _)| place as u64);
     for check in order {
         let refusal = match check {
-            Own => own(fault, edit, preview),
+            Own => own(fault, edit, preview).filter(|refusal| refusal.0 != 18),
+            Lines => own(fault, edit, preview).filter(|refusal| refusal.0 == 18),
             Block => {
                 let place = match fault.0.as_str() {
                     "edits-place-of-block-field" => field,
@@ -240,6 +246,9 @@ fn own(fault: &Fault, edit: &Edit, preview: bool) -> Option<Refusal> {
         "edits-own-place-length" => Some((number, edit.bytes.len() as u64)),
         "edits-deep-unjudged" if number == 8 && !preview => None,
         "edits-long-unjudged" if number == 9 && !preview => None,
+        "edits-lines-unjudged" if number == 18 && !preview => None,
+        "edits-lines-are-19" if number == 18 => Some((19, place)),
+        "edits-lines-placed-0" if number == 18 => Some((number, 0)),
         // what is wrong behind the block that is named, or in it
         "edits-later-unjudged" if !preview && number <= 6 && named(fault, edit).is_some_and(|named| (named.0 as u64) < place) => {
             None
@@ -277,7 +286,8 @@ fn written(fault: &Fault, edit: &Edit, refused: Option<Check>) -> Vec<u8> {
     let bytes = &edit.bytes;
     let mut after = match refused {
         None => edited(fault, edit),
-        Some(Check::Own) if fault.is("edits-unaccepted-written") => edited(fault, edit),
+        Some(Check::Own | Check::Lines) if fault.is("edits-unaccepted-written") => edited(fault, edit),
+        Some(Check::Lines) if fault.is("edits-lines-written") => edited(fault, edit),
         Some(Check::Value) if fault.is("edits-refused-written") => edited(fault, edit),
         Some(Check::Value) if fault.is("edits-refused-lowest-written") && edit.lowest <= 65_535 => {
             let mut after = edited(fault, edit);
@@ -350,13 +360,13 @@ struct Figures {
     tight: u64,
     published: u64,
     exits: usize,
-    times: Times,
+    times: Exits,
 }
 
 fn figures(image: &Image) -> Figures {
-    let (none, entry) = (Fault::default(), image.nodes.len() - 1);
-    let times = execute(&none, image, entry, &image.starts.iter().map(|&start| (start, 0)).collect());
-    let published = cost(&none, image, entry, &image.starts.iter().copied().collect()).0;
+    let none = Fault::default();
+    let times = listed(&none, &from_starts(&none, image, &image.starts));
+    let published = published(&none, image, &image.starts).0;
     Figures { tight: times.values().copied().max().unwrap_or(0), published, exits: times.len(), times }
 }
 
