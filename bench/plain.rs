@@ -1,9 +1,10 @@
 //! The job of `figure` done the plain way, for the comparison of speed (bench/README.md): a task image on standard input, its listing on
-//! standard output, as document 01 has them, refusals included. Standard library only.
+//! standard output, as document 01 and request W9 of document 02 have them, refusals included. Standard library only.
 //!
-//! The plain way: each visit of a block takes every reached offset and every duration, and a loop is unrolled by a plain loop. Nothing is
-//! kept from one visit to another and no iteration is skipped. What it does not do: it has no library entry that is lent a table, so that
-//! number 10 never comes up; and nothing about it is proved.
+//! The plain way: each visit of a block takes every reached offset and every duration, and a loop is unrolled by a plain loop; where an image
+//! has lines, there is one table of longest times for each set of lines fetched. Nothing is kept from one visit to another and no iteration is
+//! skipped. What it does not do: it has no library entry that is lent a table, so that number 10 never comes up; and nothing about it is
+//! proved.
 
 use std::fmt::Write as _;
 use std::io::{Read, Write};
@@ -32,11 +33,32 @@ struct Block {
     highest: usize,
 }
 
+/// A block fetched once, as small as its field: a larger node would cost images without lines something too.
+#[derive(Clone, Copy)]
+struct Once {
+    line: u8,
+    lowest: u8,
+    highest: u8,
+    hit: u16,
+}
+
+impl Once {
+    /// Its first execution, and every later one.
+    fn blocks(&self) -> (Block, Block) {
+        let hit = self.hit as usize;
+        (
+            Block { passes: false, accesses: true, lowest: self.lowest as usize, highest: self.highest as usize },
+            Block { passes: true, accesses: false, lowest: hit, highest: hit },
+        )
+    }
+}
+
 /// The children of a sequence or branch stay in the image, two bytes each.
 #[derive(Clone, Copy)]
 enum Node<'a> {
     Plain(Block),
     Bus(Block),
+    Once(Once),
     Sequence(&'a [u8]),
     Branch(&'a [u8]),
     Loop { least: usize, greatest: usize, body: usize },
@@ -47,6 +69,7 @@ struct Task<'a> {
     bus: Bus,
     starts: &'a [u8],
     nodes: Vec<Node<'a>>,
+    lines: usize, // one more than the highest line number of a node, reached or not, or 0
 }
 
 struct Refusal {
@@ -56,7 +79,7 @@ struct Refusal {
 
 // ---- judging
 
-/// Fields are judged from the front, each in the order head cut, 2, 3, 4, body cut, 5, 6; then 7, 8, 9.
+/// Fields are judged from the front, each in the order head cut, 2, 3, 4, body cut, 5, 6; then 7, 8, 9, 18.
 fn judge(image: &[u8]) -> Result<Task<'_>, Refusal> {
     let mut task = Task::default();
     let mut sizes: Vec<(usize, usize)> = Vec::new(); // each node's depth and visits
@@ -68,7 +91,7 @@ fn judge(image: &[u8]) -> Result<Task<'_>, Refusal> {
         let tag_fits = match field {
             0 => *tag == 1,
             1 => *tag == 2,
-            _ => (3..=7).contains(tag),
+            _ => (3..=7).contains(tag) || *tag == 10,
         };
         if !tag_fits {
             return refuse(2);
@@ -83,7 +106,8 @@ fn judge(image: &[u8]) -> Result<Task<'_>, Refusal> {
             3 => length == 4,
             5 => (2..=32).contains(&length) && length % 2 == 0,
             6 => (4..=16).contains(&length) && length % 2 == 0,
-            _ => length == 6,
+            7 => length == 6,
+            _ => length == 5,
         };
         if !length_fits {
             return refuse(4);
@@ -107,6 +131,9 @@ fn judge(image: &[u8]) -> Result<Task<'_>, Refusal> {
             _ => {
                 let Some(node) = node(*tag, body, &task.bus) else { return refuse(5) };
                 let Some(size) = size(&node, &sizes) else { return refuse(6) };
+                if let Node::Once(once) = node {
+                    task.lines = task.lines.max(once.line as usize + 1);
+                }
                 task.nodes.push(node);
                 sizes.push(size);
             }
@@ -119,6 +146,7 @@ fn judge(image: &[u8]) -> Result<Task<'_>, Refusal> {
         None => refuse(7),
         Some((depth, _)) if *depth > 24 => refuse(8),
         Some((_, visits)) if *visits > 100_000 => refuse(9),
+        _ if task.bus.period << task.lines > 1024 => refuse(18),
         _ => Ok(task),
     }
 }
@@ -142,9 +170,14 @@ fn node<'a>(tag: u8, body: &'a [u8], bus: &Bus) -> Option<Node<'a>> {
         }
         5 => (Node::Sequence(body), true),
         6 => (Node::Branch(body), true),
-        _ => {
+        7 => {
             let (least, greatest, body) = (word(body), word(&body[2..]), word(&body[4..]));
             (Node::Loop { least, greatest, body }, least <= greatest && greatest <= 10_000)
+        }
+        _ => {
+            let (line, lowest, highest, hit) = (body[0], body[1], body[2], word(&body[3..]) as u16);
+            let good = line <= 3 && 1 <= lowest && lowest <= highest && highest as usize <= bus.slot;
+            (Node::Once(Once { line, lowest, highest, hit }), good)
         }
     };
     good.then_some(node)
@@ -153,7 +186,7 @@ fn node<'a>(tag: u8, body: &'a [u8], bus: &Bus) -> Option<Node<'a>> {
 /// Depth and visits (kept at 100,001 where there are more) of a node after those of `sizes`, or none where a child is not one of them.
 fn size(node: &Node, sizes: &[(usize, usize)]) -> Option<(usize, usize)> {
     let (depth, visits) = match node {
-        Node::Plain(_) | Node::Bus(_) => (0, 0),
+        Node::Plain(_) | Node::Bus(_) | Node::Once(_) => (0, 0),
         Node::Sequence(body) | Node::Branch(body) => {
             let (mut deepest, mut sum) = (0, 0);
             for child in children(body) {
@@ -206,14 +239,30 @@ impl Task<'_> {
         }
     }
 
-    /// Tight: the table of longest times goes through a node.
-    fn longest(&self, node: usize, times: &mut Times) {
+    /// Tight: the tables of longest times go through a node. Table number m is that of the lines whose bits are set in m.
+    fn longest<const SETS: usize>(&self, node: usize, times: &mut [Times; SETS]) {
         match &self.nodes[node] {
             Node::Plain(block) | Node::Bus(block) => {
-                let mut exits = [NONE; 256];
-                for (offset, &time) in times[..self.bus.period].iter().enumerate() {
-                    if time != NONE {
-                        self.executions(block, offset, |end, cycles| keep_longer(&mut exits[end], time + cycles));
+                for table in times {
+                    let mut exits = [NONE; 256];
+                    for (offset, &time) in table[..self.bus.period].iter().enumerate() {
+                        if time != NONE {
+                            self.executions(block, offset, |end, cycles| keep_longer(&mut exits[end], time + cycles));
+                        }
+                    }
+                    *table = exits;
+                }
+            }
+            Node::Once(once) => {
+                let (fetch, hit) = once.blocks();
+                let mut exits = [[NONE; 256]; SETS];
+                for (set, table) in times.iter().enumerate() {
+                    let after = set | 1 << once.line;
+                    let block = if after == set { &hit } else { &fetch };
+                    for (offset, &time) in table[..self.bus.period].iter().enumerate() {
+                        if time != NONE {
+                            self.executions(block, offset, |end, cycles| keep_longer(&mut exits[after][end], time + cycles));
+                        }
                     }
                 }
                 *times = exits;
@@ -225,7 +274,7 @@ impl Task<'_> {
             }
             Node::Branch(body) => {
                 let entry = *times;
-                *times = [NONE; 256];
+                *times = [[NONE; 256]; SETS];
                 for arm in children(body) {
                     let mut exits = entry;
                     self.longest(arm, &mut exits);
@@ -235,7 +284,7 @@ impl Task<'_> {
             Node::Loop { least, greatest, body } => {
                 let mut current = *times;
                 if *least > 0 {
-                    *times = [NONE; 256];
+                    *times = [[NONE; 256]; SETS];
                 }
                 for done in 1..greatest + 1 {
                     self.longest(*body, &mut current);
@@ -247,7 +296,13 @@ impl Task<'_> {
         }
     }
 
-    fn join_times(&self, into: &mut Times, from: &Times) {
+    fn join_times<const SETS: usize>(&self, into: &mut [Times; SETS], from: &[Times; SETS]) {
+        for (into, from) in into.iter_mut().zip(from) {
+            self.join_table(into, from);
+        }
+    }
+
+    fn join_table(&self, into: &mut Times, from: &Times) {
         for (place, &time) in into.iter_mut().zip(from).take(self.bus.period) {
             if time != NONE {
                 keep_longer(place, time);
@@ -255,7 +310,22 @@ impl Task<'_> {
         }
     }
 
-    /// Published: the set of offsets goes through a node; the cost is given back.
+    /// For each offset the longest time of the runs that end there, over all sets of lines; SETS is 2 to the number of lines.
+    fn exit_times<const SETS: usize>(&self) -> Times {
+        let mut times = [[NONE; 256]; SETS];
+        for &start in self.starts {
+            times[0][start as usize] = 0;
+        }
+        self.longest(self.nodes.len() - 1, &mut times);
+        for set in 1..SETS {
+            let from = times[set];
+            self.join_table(&mut times[0], &from);
+        }
+        times[0]
+    }
+
+    /// Published: the set of offsets goes through a node; the cost is given back. It knows no lines: a block fetched once is both blocks at each
+    /// execution.
     fn cost(&self, node: usize, set: &mut Set) -> u64 {
         match &self.nodes[node] {
             Node::Plain(block) => {
@@ -263,6 +333,13 @@ impl Task<'_> {
                 block.highest as u64
             }
             Node::Bus(block) => self.exits(block, set),
+            Node::Once(once) => {
+                let (fetch, hit) = once.blocks();
+                let mut later = *set;
+                let cost = self.exits(&fetch, set).max(self.exits(&hit, &mut later));
+                join_sets(set, &later);
+                cost
+            }
             Node::Sequence(body) => children(body).map(|child| self.cost(child, set)).sum(),
             Node::Branch(body) => {
                 let entry = *set;
@@ -329,15 +406,18 @@ fn listing(image: &[u8]) -> String {
         Ok(task) => task,
         Err(Refusal { number, place }) => return format!("refused {number} {place}\n"),
     };
-    let mut times = [NONE; 256];
+    let times = match task.lines {
+        0 => task.exit_times::<1>(),
+        1 => task.exit_times::<2>(),
+        2 => task.exit_times::<4>(),
+        3 => task.exit_times::<8>(),
+        _ => task.exit_times::<16>(),
+    };
     let mut set = [false; 256];
     for &start in task.starts {
-        times[start as usize] = 0;
         set[start as usize] = true;
     }
-    let entry = task.nodes.len() - 1;
-    task.longest(entry, &mut times);
-    let published = task.cost(entry, &mut set);
+    let published = task.cost(task.nodes.len() - 1, &mut set);
     let exits = || times[..task.bus.period].iter().enumerate().filter(|(_, &time)| time != NONE);
     let tight = exits().map(|(_, &time)| time).max().unwrap_or(0);
     let _ = write!(text, "tight {tight}\npublished {published}\nexits {}\n", exits().count());

@@ -30,14 +30,14 @@ enum {
                                 keeps its contents and nothing is judged */
 };
 
-/* The number of a refusal. Of an image the first that holds is answered: fields are judged from the front, within one in the order
- * head cut, 2, 3, 4, body cut, 5, 6; then 7, 8, 9; then, where a block is named, 19 and 5 of the durations given for it; 10 is the last.
- * Its place is the byte position of the field's tag for 1 to 6, that of the block's field for the durations given, and the image's length
- * for 7 to 10 and 19. Of an arbiter the numbers are 17, then 15 and then 16, with place 0. Of a task table the number is 21, and its place
- * is an entry's index, or 0 for the table's size. */
+/* The number of a refusal. Of an image the first that holds is answered: fields are judged from the front, within one in the order head cut,
+ * 2, 3, 4, body cut, 5, 6; then 7, 8, 9, 18; then, where a block is named, 19 and 5 of the durations given for it; 10 is the last. Its place
+ * is the byte position of the field's tag for 1 to 6, that of the block's field for the durations given, and the image's length for 7 to 10,
+ * 18 and 19. Of an arbiter the numbers are 17, then 15 and then 16, with place 0. Of a task table the number is 21, and its place is an
+ * entry's index, or 0 for the table's size. */
 enum {
     SLOTFIGURES_CUT = 1,        /* "cut": 1 or 2 bytes left where a field's head should stand, or a body with bytes missing */
-    SLOTFIGURES_TAG = 2,        /* "tag": the first field's tag is not 1, the second's not 2, or a later one's not 3 to 7 */
+    SLOTFIGURES_TAG = 2,        /* "tag": the first field's tag is not 1, the second's not 2, or a later one's neither 3 to 7 nor 10 */
     SLOTFIGURES_FULL = 3,       /* "full": a 257th node field */
     SLOTFIGURES_LENGTH = 4,     /* "length": a body length that the tag does not permit */
     SLOTFIGURES_VALUE = 5,      /* "value": a number that breaks the rules of its field, order and products included; or the durations
@@ -51,6 +51,8 @@ enum {
                                    a reset, a state that is not well formed (see below); slotfigures_arbiter_* only */
     SLOTFIGURES_BUSY = 16,      /* "busy": a length written while waiting or running; slotfigures_arbiter_write only */
     SLOTFIGURES_FORBIDDEN = 17, /* "forbidden": a caller above 16 or without that right (see below); slotfigures_arbiter_* only */
+    SLOTFIGURES_LINES = 18,     /* "lines": the period times 2 to the number of lines is above 1,024; lines are one more than the highest line
+                                   number in the image, or 0 */
     SLOTFIGURES_BLOCK = 19,     /* "block": the node named does not exist or is no plain block; slotfigures_edit and slotfigures_preview
                                    only */
     SLOTFIGURES_TASK = 21       /* "task": a table size outside 1 to 64, or else the first entry with a number out of range or a
@@ -70,7 +72,7 @@ enum {
 /* Judges an image.
  *   image    the task image's bytes
  *   answer   at least 2 places. DONE: 0, and the period, which is the number of places that a table for this image needs.
- *            REFUSED: the number, 1 to 9, and the place. Later places keep their contents.
+ *            REFUSED: the number, 1 to 9 or 18, and the place. Later places keep their contents.
  */
 uint64_t slotfigures_judge(const uint8_t *image, size_t image_length, uint64_t *answer, size_t answer_length);
 
@@ -79,7 +81,7 @@ uint64_t slotfigures_judge(const uint8_t *image, size_t image_length, uint64_t *
  *   table    at least as many places as the period. DONE: place o below the period holds the longest time of a run that ends at
  *            offset o, or SLOTFIGURES_NO_TIME; later places keep their contents. Otherwise the table keeps its contents.
  *   answer   at least 3 places. DONE: the tight figure, the published figure and the number of exit offsets.
- *            REFUSED: the number, 1 to 10, and the place. Later places keep their contents.
+ *            REFUSED: the number, 1 to 10 or 18, and the place. Later places keep their contents.
  */
 uint64_t slotfigures_figures(const uint8_t *image, size_t image_length, uint64_t *table, size_t table_length,
                              uint64_t *answer, size_t answer_length);
@@ -91,7 +93,7 @@ uint64_t slotfigures_figures(const uint8_t *image, size_t image_length, uint64_t
  *   lowest, highest   the durations, in cycles: highest at most 65,535, lowest at most highest, and at most 63 less
  *            (all 64 bits of these three numbers count)
  *   answer   at least 2 places. DONE: 0 and 0.
- *            REFUSED: the number, 1 to 9 or 19, and the place. Later places keep their contents.
+ *            REFUSED: the number, 1 to 9, 18 or 19, and the place. Later places keep their contents.
  */
 uint64_t slotfigures_edit(uint8_t *image, size_t image_length, uint64_t node, uint64_t lowest, uint64_t highest,
                           uint64_t *answer, size_t answer_length);
@@ -102,7 +104,7 @@ uint64_t slotfigures_edit(uint8_t *image, size_t image_length, uint64_t node, ui
  *   node, lowest, highest   as for slotfigures_edit
  *   table    at least as many places as the period. DONE: filled as slotfigures_figures would. Otherwise the table keeps its contents.
  *   answer   at least 3 places. DONE: the tight figure, the published figure and the number of exit offsets.
- *            REFUSED: the number, 1 to 10 or 19, and the place. Later places keep their contents.
+ *            REFUSED: the number, 1 to 10, 18 or 19, and the place. Later places keep their contents.
  */
 uint64_t slotfigures_preview(const uint8_t *image, size_t image_length, uint64_t node, uint64_t lowest, uint64_t highest,
                              uint64_t *table, size_t table_length, uint64_t *answer, size_t answer_length);

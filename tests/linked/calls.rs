@@ -8,7 +8,7 @@ use slotfigures::{
 };
 use std::io::Read;
 
-// The table's words, by number.
+// The table's words, by number; 18 has its own.
 const WORDS: [&str; 11] = [
     "",
     "cut",
@@ -35,7 +35,10 @@ enum Expected {
 fn refusal(number: u64, place: u64) -> Refusal {
     Refusal {
         number,
-        word: WORDS[number as usize],
+        word: match number {
+            18 => "lines",
+            _ => WORDS[number as usize],
+        },
         place,
     }
 }
@@ -113,8 +116,8 @@ fn wrong(image: &[u8], expected: &Expected) -> Option<String> {
 }
 
 // Calls as deep as they come: depth 24, all loops over node 0, with the most halvings of counts that 100,000 visits permit. From 4.
-fn deepest(blocks: &[&str]) -> Vec<u8> {
-    let mut image = read_image(&format!("010003020500 02000104 {}", blocks.concat()));
+fn deepest(bus: &str, blocks: &[&str]) -> Vec<u8> {
+    let mut image = read_image(&format!("{bus} 02000104 {}", blocks.concat()));
     let mut body = 0;
     for i in 0..23 {
         let count = if i < 7 { 5 } else { 1 };
@@ -124,57 +127,71 @@ fn deepest(blocks: &[&str]) -> Vec<u8> {
     image
 }
 
-// Always accesses 2; plain, 1 cycle.
+// 2 cores, slot 5; 4 cores, slot 16, where 4 lines make 1,024 combinations of lines and offset. Core 0 of both.
+const TEN: &str = "010003020500";
+const LINED: &str = "010003041000";
+
+// Always accesses 2; plain, 1 cycle; fetched once in 1 cycle, line 3, with a hit of 64.
 const A2: &str = "040003020202";
 const PLAIN: &str = "03000400010001";
+const ONCE: &str = "0a00050301010040";
 
-// Whether that time is both figures and that of the one exit offset.
-fn takes(given: Result<Figures, Refusal>, table: [u64; 10], time: u64, exit: usize) -> bool {
-    let mut times = [NO_TIME; 10];
-    times[exit] = time;
+// Whether those are both figures, and the first of them the time of the one exit offset.
+fn takes(given: Result<Figures, Refusal>, table: &[u64], both: [u64; 2], exit: usize) -> bool {
+    let mut times = vec![NO_TIME; table.len()];
+    times[exit] = both[0];
     let figures = Figures {
-        tight: time,
-        published: time,
+        tight: both[0],
+        published: both[1],
         exits: 1,
     };
     given == Ok(figures) && table == times
 }
 
 // A2 from 4 takes 8 and ends at 2, from 2 it takes 2 and ends at 4: 78,125 in turn, 8 first and last, end at 2.
-const DEEPEST: u64 = 39_063 * 8 + 39_062 * 2;
+const DEEPEST: [u64; 2] = [39_063 * 8 + 39_062 * 2; 2];
+// The first of 78,125 is fetched and ends at 5, and the others are hit, once round the period. Published: no wait is as long as a hit.
+const DEEPEST_ONCE: [u64; 2] = [1 + 78_124 * 64, 78_125 * 64];
 
 fn deepest_calls() -> bool {
-    let mut table = [NO_TIME; 10];
-    let given = figures(&deepest(&[A2]), &mut table);
-    takes(given, table, DEEPEST, 2)
+    let (mut table, mut lined) = ([NO_TIME; 10], [NO_TIME; 64]);
+    let given = figures(&deepest(TEN, &[A2]), &mut table);
+    let once = figures(&deepest(LINED, &[ONCE]), &mut lined);
+    takes(given, &table, DEEPEST, 2) && takes(once, &lined, DEEPEST_ONCE, 5)
 }
 
 // The same with a plain block beside it, which the entry does not reach; and over a plain block: 78,125 times 3 cycles from 4 end at 9.
 fn deepest_previews() -> bool {
-    let mut table = [NO_TIME; 10];
-    let beside = preview(&deepest(&[A2, PLAIN]), 1, 3, 3, &mut table);
-    let mut other = [NO_TIME; 10];
-    let below = preview(&deepest(&[PLAIN]), 0, 3, 3, &mut other);
-    takes(beside, table, DEEPEST, 2) && takes(below, other, 3 * 78_125, 9)
+    let (mut table, mut lined, mut other) = ([NO_TIME; 10], [NO_TIME; 64], [NO_TIME; 10]);
+    let beside = preview(&deepest(TEN, &[A2, PLAIN]), 1, 3, 3, &mut table);
+    let once = preview(&deepest(LINED, &[ONCE, PLAIN]), 1, 3, 3, &mut lined);
+    let below = preview(&deepest(TEN, &[PLAIN]), 0, 3, 3, &mut other);
+    takes(beside, &table, DEEPEST, 2)
+        && takes(once, &lined, DEEPEST_ONCE, 5)
+        && takes(below, &other, [3 * 78_125; 2], 9)
 }
 
-// The most nodes: a block and 255 sequences of 16 children.
-fn most_nodes() -> bool {
-    let mut image = read_image("010003020500 02000104 040003020202");
-    for _ in 1..256 {
-        image.extend([&[5, 0, 32][..], &[0; 32]].concat());
-    }
-    period(&image) == Ok(10)
+// The longest image of a block: it, and 255 sequences of 16 children, from all 256 starts.
+fn longest(block: &str) -> Vec<u8> {
+    let mut image = read_image("010003101000 020100");
+    image.extend(0..=255);
+    image.extend(read_image(block));
+    image.extend([&[5, 0, 32][..], &[0; 32]].concat().repeat(255));
+    image
 }
 
-// The last of the most nodes, all plain, and the first of the longest image: a block and 255 sequences of 16 children, all 256 starts.
+// The longest image of all, and with a line more, which no period of 256 permits.
+fn most_bytes() -> bool {
+    let (line_1, line_2) = ("0a00050101010000", "0a00050201010000");
+    let good = period(&longest(line_1)) == Ok(256) && longest(line_1).len() == 9198;
+    good && period(&longest(line_2)) == Err(refusal(18, 9198))
+}
+
+// The last of the most nodes, all plain, and the first of the longest image with a plain block.
 fn edited() -> bool {
     let mut nodes = read_image("010003020500 02000104");
     nodes.extend(read_image(PLAIN).repeat(256));
-    let mut longest = read_image("010003101000 020100");
-    longest.extend(0..=255);
-    longest.extend(read_image(PLAIN));
-    longest.extend([&[5, 0, 32][..], &[0; 32]].concat().repeat(255));
+    let mut longest = longest(PLAIN);
     let good = edit(&mut nodes, 255, 3, 4).is_ok() && edit(&mut longest, 0, 3, 4).is_ok();
     let four = [0, 3, 0, 4];
     good && nodes[1798..] == four && longest.len() == 9197 && longest[268..272] == four
@@ -243,7 +260,7 @@ fn main() {
     tell("the deepest calls in 1 MiB of stack", deepest);
     let previews = within_the_stack(1024, deepest_previews);
     tell("the deepest previews in 1 MiB of stack", previews);
-    tell("judge in 32 KiB of stack", within_the_stack(32, most_nodes));
+    tell("judge in 32 KiB of stack", within_the_stack(32, most_bytes));
     tell("edit in 32 KiB of stack", within_the_stack(32, edited));
     let largest = within_the_stack(32, largest_table);
     tell("finishes in 32 KiB of stack", largest);

@@ -44,6 +44,7 @@ fn filled(places: usize) -> Vec<u64> {
 // A refusal as it is written, with its word compared.
 fn refused(r: Refusal) -> Result<String, String> {
     let word = match r.number {
+        18 => "lines",
         19 => "block",
         n => {
             let words = "cut tag full length value forward unfinished deep long table";

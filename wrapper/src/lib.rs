@@ -143,11 +143,11 @@ impl Task<'_> {
     }
 }
 
-/// Why nothing is given: the number, its word and its place. The numbers 1 to 10 are told of an image, and the place is a byte position or,
-/// for 7 to 10, the image's length. Of a change, 19 is told of a node that does not exist or is no plain block, and the place is the image's
-/// length; 5 also of durations out of range, and the place is that of the block's field. 15 and 16 are told of an [`Arbiter`], and the place
-/// is 0; 17 is told of a core above 15 that asks for a handle, and of no call of a handle. 21 is told of a table of tasks, and the place is the
-/// index of an entry, or 0 for the table's size.
+/// Why nothing is given: the number, its word and its place. The numbers 1 to 10 and 18 are told of an image, and the place is a byte position
+/// or, for 7 to 10 and 18, the image's length. Of a change, 19 is told of a node that does not exist or is no plain block, and the place is
+/// the image's length; 5 also of durations out of range, and the place is that of the block's field. 15 and 16 are told of an [`Arbiter`], and
+/// the place is 0; 17 is told of a core above 15 that asks for a handle, and of no call of a handle. 21 is told of a table of tasks, and the
+/// place is the index of an entry, or 0 for the table's size.
 #[derive(Clone, Copy, Debug, PartialEq, Eq)]
 pub struct Refusal {
     pub number: u64,
@@ -171,6 +171,7 @@ fn word(number: u64) -> &'static str {
         15 => "register",
         16 => "busy",
         17 => "forbidden",
+        18 => "lines",
         19 => "block",
         21 => "task",
         _ => unreachable!("no refusal has the number {number}"),
@@ -200,7 +201,8 @@ fn told(call: impl FnOnce(&mut [u64]) -> u64) -> Result<[u64; 3], Refusal> {
     }
 }
 
-/// The period of an accepted image, which is the number of places that [`figures`] and [`preview`] need; or why it is refused (numbers 1 to 9).
+/// The period of an accepted image, which is the number of places that [`figures`] and [`preview`] need; or why it is refused (numbers 1 to 9
+/// and 18).
 pub fn period(image: &[u8]) -> Result<usize, Refusal> {
     // the pointers and lengths are those of an image and an answer that live through the call and do not overlap
     let [_, period, _] = told(|answer| unsafe {
@@ -214,7 +216,7 @@ pub fn period(image: &[u8]) -> Result<usize, Refusal> {
     Ok(period as usize)
 }
 
-/// Whether an image is accepted, or why it is not (numbers 1 to 9).
+/// Whether an image is accepted, or why it is not (numbers 1 to 9 and 18).
 pub fn judge(image: &[u8]) -> Result<(), Refusal> {
     period(image).map(|_| ())
 }
@@ -229,7 +231,7 @@ fn figured(call: impl FnOnce(&mut [u64]) -> u64) -> Result<Figures, Refusal> {
 }
 
 /// Both figures and the exit count of an image. Place o of the table, for each offset o below the period, then holds the longest time
-/// of a run that ends there, or [`NO_TIME`]; later places keep their contents, and after a refusal (numbers 1 to 10) all do.
+/// of a run that ends there, or [`NO_TIME`]; later places keep their contents, and after a refusal (numbers 1 to 10 and 18) all do.
 pub fn figures(image: &[u8], table: &mut [u64]) -> Result<Figures, Refusal> {
     // the pointers and lengths are those of an image, a table and an answer that live through the call and do not overlap
     figured(|answer| unsafe {
@@ -248,8 +250,8 @@ pub fn figures(image: &[u8], table: &mut [u64]) -> Result<Figures, Refusal> {
 /// is as it was.
 ///
 /// Nodes are numbered from 0 as they stand in the image: its third field is node 0, its last the entry. Refused: an image that is not
-/// accepted, by its own number (1 to 9); then a node that does not exist or is no plain block (19); then durations of which the highest is
-/// above 65,535, or the lowest above the highest or more than 63 below it (5, and the place is that of the block's field).
+/// accepted, by its own number (1 to 9 or 18); then a node that does not exist or is no plain block (19); then durations of which the highest
+/// is above 65,535, or the lowest above the highest or more than 63 below it (5, and the place is that of the block's field).
 pub fn edit(image: &mut [u8], node: u64, lowest: u64, highest: u64) -> Result<(), Refusal> {
     // the pointers and lengths are those of an image and an answer that live through the call and do not overlap
     told(|answer| unsafe {
