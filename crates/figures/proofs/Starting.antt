@@ -26,7 +26,7 @@ use Rattle.image.specs.declared.Task.{Task}
 use Rattle.offsets.specs.declared.Set.{Set}
 use Rattle.times.specs.Arrays.{timeOf, tableOf, Put}
 use Rattle.times.proofs.Tables.{time-none, time-some}
-use Rattle.lined.specs.Lined.{AtOffsets, Joins}
+use Rattle.lined.specs.Lined.{AtOffsets, JoinReady}
 use Rattle.lined.proofs.RowLaws.{period-pos, over, over-none, over-all}
 use Rattle.exits.specs.Exits.{busPeriod}
 use Rattle.tight.specs.Steps.{sizeOf, table, Ready, Roomy, Walked}
@@ -111,7 +111,7 @@ module _ (s : List ℕ) (k : Task) (places : List ℕ) (w : Answerable s k place
     rows-ready = start-ready t rows-long (started-rows start t n is e u)
 
     -- as many of its rows as there are, or fewer
-    pub rows-joins : (x : Tree) (r : List ℕ) → Walked k x t r → (m : ℕ) → m ≤ k .sets → Joins (k .bus) m r
+    pub rows-joins : (x : Tree) (r : List ℕ) → Walked k x t r → (m : ℕ) → m ≤ k .sets → JoinReady (k .bus) m r
     rows-joins x r h m l = record {
       ranges = w .walkable .sound .bus;
       few = omega (arith, sized s k places (w .walkable) .few);

@@ -16,7 +16,7 @@ use Rattle.runs.specs.Figures.{Time, noTime, entryOf, held, sum, treeOf, exitTi
 use Rattle.runs.specs.Demand3.{Longest, nothing, reached, Accepted, Exact}
 use Rattle.runs.proofs.Meanings.{row-at}
 use Rattle.runs.proofs.TimesExact.{longest-some}
-use Rattle.runs.proofs.Whole.{demand3, tight-number}
+use Rattle.runs.proofs.Whole.{demand3, tight-number, run-inside}
 use Rattle.figures.specs.WholeRuns.{Listed, Counted, none as no-numbers, one-more, no-more, EndsAt, WholeRuns}
 
 pub row-length : {A : Type 0} (n : ℕ) (f : ℕ → A) → length (row n f) ≡ n
@@ -63,7 +63,7 @@ module _ (t : Task) (ok : Accepted t) (few : visits (treeOf t) ≤ 100000) (rest
   at-end o c l e = longest-has (exact .table o l) c e
 
   at-run : (s : State) → Run t s → (m : ℕ) × (getD (exitTimes t) (finalOffset t s) none ≡ some m) × (s .count ≤ m)
-  at-run s r = at-end (finalOffset t s) (s .count) (exact .inside s r) (s .at, refl, r)
+  at-run s r = at-end (finalOffset t s) (s .count) (run-inside t ok s r) (s .at, refl, r)
 
   -- what is listed is a time, which a run reaches
   at-listed : (o : ℕ) → o < t .bus .period → Listed table o → (m : ℕ) × (getD (exitTimes t) o none ≡ some m) × (getD table o 0 ≡ m) × Ends t o m
@@ -89,7 +89,7 @@ module _ (t : Task) (ok : Accepted t) (few : visits (treeOf t) ≤ 100000) (rest
   whole-runs = let (m, e) = tight-number t ok in rw e (runs m e)
     where
       tightest : (m : ℕ) → tight t ≡ some m → (s : State) → Run t s → s .count ≤ m
-      tightest m e s r = longest-some (exact .longest) m e .1 (s .count) (finalOffset t s, exact .inside s r, (s .at, refl, r))
+      tightest m e s r = longest-some (exact .longest) m e .1 (s .count) (finalOffset t s, run-inside t ok s r, (s .at, refl, r))
 
       no-later : (m : ℕ) → tight t ≡ some m → (o n : ℕ) → o < t .bus .period → Ends t o n → n ≤ m
       no-later m e o n l r = longest-some (exact .longest) m e .1 n (o, l, r)
@@ -106,8 +106,8 @@ module _ (t : Task) (ok : Accepted t) (few : visits (treeOf t) ≤ 100000) (rest
       runs m e = record {
         some-run = exact .some-run;
         inside = exact .inside;
-        listed = λ s r. let (n, f, b) = at-run s r in let h = held-place (finalOffset t s) n (exact .inside s r) f in (λ z. omega (arith, h .0, h .1, z));
-        within-time = λ s r. let (n, f, b) = at-run s r in omega (arith, held-place (finalOffset t s) n (exact .inside s r) f .0);
+        listed = λ s r. let (n, f, b) = at-run s r in let h = held-place (finalOffset t s) n (run-inside t ok s r) f in (λ z. omega (arith, h .0, h .1, z));
+        within-time = λ s r. let (n, f, b) = at-run s r in omega (arith, held-place (finalOffset t s) n (run-inside t ok s r) f .0);
         within-tight = tightest m e;
         reached = λ o l h. let (n, f, p, r) = at-listed o l h in rw p r;
         counted = count-below (t .bus .period) (omega arith);

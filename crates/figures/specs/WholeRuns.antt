@@ -5,7 +5,7 @@ use mathlib.Core.List.{List}
 use lib.ListN.{getD}
 use Prim.Native.Nat.{ℕ, zero, suc, _≤_, _<_}
 use Rattle.runs.specs.Clock.{State}
-use Rattle.runs.specs.Runs.{Task, Run, finalOffset, Ends}
+use Rattle.runs.specs.Runs.{Task, placesOf, Run, finalOffset, Ends}
 use Rattle.runs.specs.Figures.{noTime}
 
 -- "An offset o below P is listed when place o holds a time and not that number."
@@ -26,7 +26,7 @@ pub record WholeRuns (t : Task) (tight published exits : ℕ) (table : List ℕ)
   -- there is a run
   pub some-run : (s : State) × Run t s
   -- "its final offset is listed and its cycles exceed neither the time listed there nor the tight figure"
-  pub inside : (s : State) → Run t s → finalOffset t s < t .bus .period
+  pub inside : (s : State) → Run t s → s .at < placesOf t .size
   pub listed : (s : State) → Run t s → Listed table (finalOffset t s)
   pub within-time : (s : State) → Run t s → s .count ≤ getD table (finalOffset t s) 0
   pub within-tight : (s : State) → Run t s → s .count ≤ tight

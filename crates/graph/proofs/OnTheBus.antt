@@ -39,7 +39,7 @@ pub any-cycle : (t : Task) (tight published exits : ℕ) (table : List ℕ) → 
     → (c d : ℕ) → Takes t c d → d ≤ tight
 any-cycle t tight published exits table w every c d r =
     let (s, run) = w .some-run in
-    let pos : 0 < t .bus .period = omega (arith, w .inside s run) in
+    let pos : 0 < t .bus .period = omega (arith, run .inside) in
     let below = mod-lt c pos in
     let this : Run t (r .final) = record { from = c % t .bus .period; inside = below; isListed = every (c % t .bus .period) (omega (arith, below)); does = r .does } in
     omega (arith, w .within-tight (r .final) this, r .cycles)

@@ -1,14 +1,17 @@
 -- What the layers above need of an accepted image: it is sound, and the task that its bytes say is one of which crate `runs` proves both figures.
-use mathlib.Core.Path.{_≡_, ap}
-use mathlib.Core.Bool.{true}
+use mathlib.Core.Path.{_≡_, sym, _∙_, ap}
+use mathlib.Core.Bool.{true, false}
+use mathlib.Core.Option.{none}
 use mathlib.Core.List.{List}
 use Prim.Native.Nat.{ℕ, _+_, _*_, _≤_, _<_}
 use native.Mathlib.Omega.{arith}
 use lib.ListN.{getD}
 use Rattle.runs.specs.Slots.{equal}
 use Rattle.runs.specs.Runs.{listed}
+use Rattle.runs.specs.Figures.{held, exitTimes, exitSet}
 use Rattle.runs.specs.Demand3.{InRange, Accepted as RunAccepted}
 use Rattle.runs.proofs.SlotsLaws.{equal-lawful}
+use Rattle.runs.proofs.Unlined.{exit-exact}
 use Rattle.image.specs.Bytes.{byteAt, wordAt}
 use Rattle.image.specs.Nodes.{fieldAt, nodeOf, meant, nodeAt, startsOf, taskOf}
 use Rattle.bus.specs.Waits.{slotsOf, Ranges}
@@ -26,7 +29,7 @@ use Rattle.image.proofs.Lists.{words-some, is-listed}
 use Rattle.image.proofs.Passing.{few, fewer, inside}
 use Rattle.image.proofs.Kept.{node-fine, bus-fine, starts-fine}
 use Rattle.image.proofs.Levels.{falls}
-use Rattle.image.proofs.Fetches.{lines-few}
+use Rattle.image.proofs.Fetches.{lines-few, no-lines}
 use Rattle.image.proofs.Reasons.{when-accepted}
 
 module _ (s : List ℕ) (t : Task) (a : Accepting s t) where
@@ -106,3 +109,10 @@ accepted s t e =
 -- node k of a sound task stands at its place, so `tree-here` and `fine-here` of proofs/Levels.antt say what it is
 pub standing : (s : List ℕ) (t : Task) (places : List ℕ) → Sound s t places → (k : ℕ) → k < t .nodes → Standing s k (getD places k 0)
 standing s t places h k l = record { passed = fewer s (k + 3) (t .nodes + 2) (omega arith) (h .complete .passed); place = h .placed k l }
+
+-- of an image of no lines the published exit set has exactly the offsets at which runs end
+pub unlined-exits : (s : List ℕ) (t : Task) → judged s ≡ Accepted t → t .lines ≡ 0
+    → (o : ℕ) → o < taskOf s t .bus .period → getD (exitSet (taskOf s t)) o false ≡ held (getD (exitTimes (taskOf s t)) o none)
+unlined-exits s t e z =
+    let a = when-accepted s t e in
+    exit-exact (taskOf s t) (accepted s t e) (λ n l. no-lines s (t .nodes) (sym (a .lines) ∙ z) n (omega (arith, a .last)))

@@ -1,4 +1,4 @@
--- The table of "When no figure is given" of document 01, numbers 1 to 9 and 18, row by row: when an image is refused, for what and at which
+-- Numbers 1 to 9 of "When no figure is given" of document 01, and 18 of W9, row by row: when an image is refused, for what and at which
 -- place. No order of steps is in it: each condition names what comes before it. proofs/Reasons.antt proves that the verdict is a
 -- refusal for r at a place if and only if `Condition s r place`. Definitions only.
 use mathlib.Core.Path.{_≡_}
@@ -46,7 +46,7 @@ pub record Complete (s : List ℕ) (n : ℕ) : Type 0 where
 pub data Condition (s : List ℕ) : Refusal → ℕ → Type 0 where
   -- 1: "1 or 2 bytes left where a field's head should stand"
   head-cut : (k : ℕ) → Passed s k → fieldAt s k < length s → length s < fieldAt s k + 3 → Condition s Cut (fieldAt s k)
-  -- 2: "the first field's tag is not 1, the second's not 2, or a later one's not 3 to 7"
+  -- 2: "the first field's tag is not 1, the second's not 2, or a later one's not 3 to 7", nor 10 of W9
   wrong-tag : (k : ℕ) → Passed s k → fieldAt s k + 3 ≤ length s → tagOk k (tagAt s k) ≡ false → Condition s Tag (fieldAt s k)
   -- 3: "a 257th node field", which has 258 fields before it
   one-more : Passed s 258 → fieldAt s 258 + 3 ≤ length s → tagOk 258 (tagAt s 258) ≡ true → Condition s Full (fieldAt s 258)

@@ -54,10 +54,11 @@ startsOk s place (suc n) least period =
 unfoldable pub plainOk : ℕ → ℕ → Bool
 plainOk lowest highest = leb highest 65535 && (leb lowest highest && leb (highest - lowest) 63)
 
--- row 4: "kind (1 may access, 2 always accesses)", "1 ≤ lowest ≤ highest ≤ slot"
+-- rows 4 and 10: "1 ≤ lowest ≤ highest ≤ slot"
 unfoldable pub accessOk : ℕ → ℕ → ℕ → Bool
 accessOk lowest highest slot = leb 1 lowest && (leb lowest highest && leb highest slot)
 
+-- row 4: "kind (1 may access, 2 always accesses)"
 unfoldable pub blockOk : ℕ → ℕ → ℕ → ℕ → Bool
 blockOk kind lowest highest slot = within 1 2 kind && accessOk lowest highest slot
 

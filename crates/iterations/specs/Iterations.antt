@@ -10,7 +10,7 @@ use Rattle.times.specs.Arrays.{tableOf, Shifted}
 use Rattle.cycles.specs.Cycles.{Counts, Skips, Watches}
 use Rattle.cycles.specs.declared.Watch.{Watch}
 
--- an array of n places that holds no time, and one for n places
+-- an array that holds no time at its first n places
 pub record Empty (n : ℕ) (out : List ℕ) : Type 0 where
   pub size : n ≤ length out
   pub none-at : (o : ℕ) → o < n → getD (tableOf n out) o none ≡ none

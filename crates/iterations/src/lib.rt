@@ -2,7 +2,7 @@
 // exit set of iteration i"), over lent tables of n places each.
 //
 // Promises: the exits before the first iteration (`BegunBy`) and after one more (`TurnedBy`) are those of the definition; what is seen of a loop
-// is true of it (`WatchedBy`), and skipping whole cycles is walking them (`SkippedBy`).
+// is true of it (`KeptBy`, `WatchedBy`), and skipping whole cycles is walking them (`SkippedBy`).
 // Definitions: specs/Iterations.antt, over crates/runs/specs/Parts.antt, crates/cycles/specs and crates/times/specs/Arrays.antt.
 ghost use mathlib.Core.Path.{_≡_};
 ghost use lib.ListN.{length};
@@ -62,14 +62,14 @@ pub fn watched(n: usize, cur: &[u64], old: &mut [u64], w: Watch) -> Watch
 }
 
 // Of the `left` iterations to come whole cycles are skipped; what is left then is only walked.
-pub fn skipped(size: usize, left: usize, w: Watch, cur: &mut [u64]) -> Watch
-    requires { ⌜ (size ≤ length (now cur)) × (w .done + left ≤ 10000) × Small w × Fits size (now cur) ⌝ }
-    ensures { λ r. ⌜ SkippedBy size left w (now (cur .entry)) (now (cur .exit)) r ⌝ }
+pub fn skipped(n: usize, left: usize, w: Watch, cur: &mut [u64]) -> Watch
+    requires { ⌜ (n ≤ length (now cur)) × (w .done + left ≤ 10000) × Small w × Fits n (now cur) ⌝ }
+    ensures { λ r. ⌜ SkippedBy n left w (now (cur .entry)) (now (cur .exit)) r ⌝ }
 {
-    let n = cycles::jumps(w.cycle, left);
-    times::all_later(cur, size, n * w.gain);
+    let jumps = cycles::jumps(w.cycle, left);
+    times::all_later(cur, n, jumps * w.gain);
     Watch {
-        done: w.done + n * w.cycle,
+        done: w.done + jumps * w.cycle,
         gap: 0,
         span: 0,
         cycle: 0,

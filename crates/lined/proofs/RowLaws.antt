@@ -27,7 +27,7 @@ use Rattle.times.specs.Arrays.{noTime, timeOf, tableOf, Fits, Stepped, Joined, 
 use Rattle.times.proofs.Tables.{time-none, tableOf-at}
 use Rattle.lined.specs.declared.Step.{Step}
 use Rattle.lined.specs.declared.Step.the-variants.{Plain, May, Always}
-use Rattle.lined.specs.Lined.{periodAt, meant, rowAt, FitsFrom, SteppedRow, lined, SteppedAll, Fetched, Visited, OnceReady}
+use Rattle.lined.specs.Lined.{periodAt, blockOf, rowAt, FitsFrom, SteppedRow, lined, SteppedAll, Fetched, Visited, RowsReady}
 
 -- ---- a part of a list
 
@@ -100,13 +100,13 @@ module _ (b : Bus) where
   row-none : (at : ℕ) (t : List ℕ) → ((o : ℕ) → o < P → getD t (at + o) 0 ≡ noTime) → (o : ℕ) → o < P → getD (rowAt P at t) o none ≡ none
   row-none at t h o l = row-at P (λ o. timeOf (getD t (at + o) 0)) o none l ∙ time-none _ (h o l)
 
-  still-flat : (s : Step) (lo hi : ℕ) (T : List Time) → ((o : ℕ) → o < P → getD T o none ≡ none) → (o : ℕ) → o < P → getD (flat (meant s lo hi) T) o none ≡ none
+  still-flat : (s : Step) (lo hi : ℕ) (T : List Time) → ((o : ℕ) → o < P → getD T o none ≡ none) → (o : ℕ) → o < P → getD (flat (blockOf s lo hi) T) o none ≡ none
   still-flat Plain lo hi T h o l = plain-still none longer longer-joins later still (equal (slotsOf b)) (offsets P) lo hi T h o l
   still-flat May lo hi T h o l = bus-still none longer longer-joins later still (equal (slotsOf b)) (offsets P) may lo hi T h o l
   still-flat Always lo hi T h o l = bus-still none longer longer-joins later still (equal (slotsOf b)) (offsets P) always lo hi T h o l
 
   pub still-row : (s : Step) (lo hi n at : ℕ) (t : List ℕ) → n ≡ P → ((o : ℕ) → o < P → getD (take n (drop at t)) o 0 ≡ noTime)
-      → SteppedRow b (meant s lo hi) at t t
+      → SteppedRow b (blockOf s lo hi) at t t
   still-row s lo hi n at t e h =
       let none-at : (o : ℕ) → o < P → getD t (at + o) 0 ≡ noTime = λ o l. sym (part-at n at t o (omega arith)) ∙ h o l in
       record {
@@ -135,19 +135,19 @@ module _ (b : Bus) where
         inside m o l k = omega (arith, within P pos (power n) m o l k)
 
     all-at : (s : Step) (lo hi : ℕ) (t : List ℕ) (m o : ℕ) → m < power n → o < P
-        → getD (times (equal (slotsOf b)) (withLines P n) (meant s lo hi) (lined b n t)) (m * P + o) none ≡ getD (flat (meant s lo hi) (rowAt P (m * P) t)) o none
+        → getD (times (equal (slotsOf b)) (withLines P n) (blockOf s lo hi) (lined b n t)) (m * P + o) none ≡ getD (flat (blockOf s lo hi) (rowAt P (m * P) t)) o none
     unfolding equal
-    all-at s lo hi t m o l k = go s ∙ ap (λ (T : List Time). getD (flat (meant s lo hi) T) o none) (row-of t m l)
+    all-at s lo hi t m o l k = go s ∙ ap (λ (T : List Time). getD (flat (blockOf s lo hi) T) o none) (row-of t m l)
       where
-        go : (s : Step) → getD (times (equal (slotsOf b)) (withLines P n) (meant s lo hi) (lined b n t)) (m * P + o) none
-            ≡ getD (flat (meant s lo hi) (rowOf none P m (lined b n t))) o none
+        go : (s : Step) → getD (times (equal (slotsOf b)) (withLines P n) (blockOf s lo hi) (lined b n t)) (m * P + o) none
+            ≡ getD (flat (blockOf s lo hi) (rowOf none P m (lined b n t))) o none
         go Plain = plain-row none longer longer-joins later still (equal (slotsOf b)) pos n lo hi (lined b n t) m o l k
         go May = bus-row none longer longer-joins later still (equal (slotsOf b)) pos n may lo hi (lined b n t) m o l k
         go Always = bus-row none longer longer-joins later still (equal (slotsOf b)) pos n always lo hi (lined b n t) m o l k
 
     from-each : (s : Step) (lo hi : ℕ) (t r : List ℕ)
-        → ((p : ℕ) → p < power n * P → timeOf (getD r p 0) ≡ getD (times (equal (slotsOf b)) (withLines P n) (meant s lo hi) (lined b n t)) p none)
-        → lined b n r ≡ times (equal (slotsOf b)) (withLines P n) (meant s lo hi) (lined b n t)
+        → ((p : ℕ) → p < power n * P → timeOf (getD r p 0) ≡ getD (times (equal (slotsOf b)) (withLines P n) (blockOf s lo hi) (lined b n t)) p none)
+        → lined b n r ≡ times (equal (slotsOf b)) (withLines P n) (blockOf s lo hi) (lined b n t)
     unfolding carried tableOf withLines
     from-each Plain lo hi t r h = row-same (power n * P) _ _ (λ p l. h p l ∙ row-at (power n * P) _ p none l)
     from-each May lo hi t r h = row-same (power n * P) _ _ (λ p l. h p l ∙ row-at (power n * P) _ p none l)
@@ -155,29 +155,29 @@ module _ (b : Bus) where
 
     -- every row is stepped, so the table is
     pub all-rows : (s : Step) (lo hi : ℕ) (t r : List ℕ) → length r ≡ length t
-        → ((m o : ℕ) → m < power n → o < P → timeOf (getD r (m * P + o) 0) ≡ getD (flat (meant s lo hi) (rowAt P (m * P) t)) o none)
-        → SteppedAll b n (meant s lo hi) t r
+        → ((m o : ℕ) → m < power n → o < P → timeOf (getD r (m * P + o) 0) ≡ getD (flat (blockOf s lo hi) (rowAt P (m * P) t)) o none)
+        → SteppedAll b n (blockOf s lo hi) t r
     all-rows s lo hi t r e h = record { size = e; steps = from-each s lo hi t r each }
       where
-        each : (p : ℕ) → p < power n * P → timeOf (getD r p 0) ≡ getD (times (equal (slotsOf b)) (withLines P n) (meant s lo hi) (lined b n t)) p none
+        each : (p : ℕ) → p < power n * P → timeOf (getD r p 0) ≡ getD (times (equal (slotsOf b)) (withLines P n) (blockOf s lo hi) (lined b n t)) p none
         each p l =
             let m : p / P < power n = div-lt-iff-lt-mul pos .1 l in
             let z : p / P * P + p % P ≡ p = div-add-mod' p P in
-            subst (λ (i : ℕ). timeOf (getD r i 0) ≡ getD (times (equal (slotsOf b)) (withLines P n) (meant s lo hi) (lined b n t)) i none) z
+            subst (λ (i : ℕ). timeOf (getD r i 0) ≡ getD (times (equal (slotsOf b)) (withLines P n) (blockOf s lo hi) (lined b n t)) i none) z
             (h (p / P) (p % P) m (mod-lt _ pos) ∙ sym (all-at s lo hi t (p / P) (p % P) m (mod-lt _ pos)))
 
   -- one row more
   pub rows-more : (s : Step) (lo hi m : ℕ) (t₀ t t' : List ℕ)
-      → ((j o : ℕ) → j < m → o < P → timeOf (getD t (j * P + o) 0) ≡ getD (flat (meant s lo hi) (rowAt P (j * P) t₀)) o none)
+      → ((j o : ℕ) → j < m → o < P → timeOf (getD t (j * P + o) 0) ≡ getD (flat (blockOf s lo hi) (rowAt P (j * P) t₀)) o none)
       → ((p : ℕ) → m * P ≤ p → getD t p 0 ≡ getD t₀ p 0)
-      → SteppedRow b (meant s lo hi) (m * P) t t'
-      → ((j o : ℕ) → j < m + 1 → o < P → timeOf (getD t' (j * P + o) 0) ≡ getD (flat (meant s lo hi) (rowAt P (j * P) t₀)) o none)
+      → SteppedRow b (blockOf s lo hi) (m * P) t t'
+      → ((j o : ℕ) → j < m + 1 → o < P → timeOf (getD t' (j * P + o) 0) ≡ getD (flat (blockOf s lo hi) (rowAt P (j * P) t₀)) o none)
       × ((p : ℕ) → (m + 1) * P ≤ p → getD t' p 0 ≡ getD t₀ p 0)
   rows-more s lo hi m t₀ t t' done rest k = (
     (λ j o h l.
         split m j
         (λ g. let e : j ≡ m = omega arith in
-        rw e (k .inside o l ∙ ap (λ (T : List Time). getD (flat (meant s lo hi) T) o none) (row-moves (m * P) t t₀ (λ o l. rest (m * P + o) (omega arith)))))
+        rw e (k .inside o l ∙ ap (λ (T : List Time). getD (flat (blockOf s lo hi) T) o none) (row-moves (m * P) t t₀ (λ o l. rest (m * P + o) (omega arith)))))
         (λ g. ap timeOf (k .before (j * P + o) (omega (arith, suc-mul j P, mul-le-mul-right P g))) ∙ done j o g l)),
     (λ p h. let z : m * P + P ≤ p = omega (arith, add-mul m 1 P, one-mul P) in k .after p z ∙ rest p (omega arith)),
   )
@@ -339,8 +339,8 @@ module _ (b : Bus) where
           subst Is (div-add-mod' p P) (once-at (p / P) (p % P) m (mod-lt _ pos)) ∙ row-at (power n * P) _ p none l);
     }
 
-  pub once-ready : (lo hi hit w sets m : ℕ) (t₀ t : List ℕ) → OnceReady b lo hi hit w sets 0 t₀ → length t ≡ length t₀
-      → ((j : ℕ) → m ≤ j → j < sets → j / w % 2 ≡ 0 → Kept lo hi hit w t₀ t j) → OnceReady b lo hi hit w sets m t
+  pub once-ready : (lo hi hit w sets m : ℕ) (t₀ t : List ℕ) → RowsReady b lo hi hit w sets 0 t₀ → length t ≡ length t₀
+      → ((j : ℕ) → m ≤ j → j < sets → j / w % 2 ≡ 0 → Kept lo hi hit w t₀ t j) → RowsReady b lo hi hit w sets m t
   once-ready lo hi hit w sets m t₀ t r e kept = record {
     access = r .access;
     short = r .short;

@@ -7,13 +7,13 @@ use Rattle.figures.specs.Answers.{Result, given, refused, answer, tableAfter}
 use Rattle.text.specs.Text.{refusedLine, figureLines}
 
 -- the lines of an answer and its table of 256 places: a refusal, or the figures, the count and each place that holds a time
-abbrev pub linesOf : Result → List ℕ → List ℕ
-linesOf (refused number place) table = refusedLine number place
-linesOf (given tight published exits) table = figureLines tight published exits 256 table
+abbrev pub textOf : Result → List ℕ → List ℕ
+textOf (refused number place) table = refusedLine number place
+textOf (given tight published exits) table = figureLines tight published exits 256 table
 
 -- the table that is lent: 256 places, none of which holds a time
 abbrev pub lent : List ℕ
 lent = replicate 256 noTime
 
 unfoldable pub listingOf : List ℕ → List ℕ
-listingOf s = linesOf (answer s lent) (tableAfter s lent)
+listingOf s = textOf (answer s lent) (tableAfter s lent)

@@ -10,7 +10,7 @@ use Prim.Native.Nat.{ℕ, zero, suc, _/_, _%_, _≤_, _<_}
 use Rattle.runs.specs.Lines.{has, add}
 use Rattle.runs.specs.Clock.{Places, State, on, withLines, tick, pass, fetched, Access, start, hold}
 use Rattle.runs.specs.Runs.{Task, placesOf, Run, Does, DoesAll, DoesTimes, passes, may-pass, accesses, first-time, later-time, in-order, one-of, repeats, end, next, enough, again}
-use Rattle.runs.specs.Fetching.{executes, executesAll, executesTimes}
+use Rattle.runs.specs.Fetching.{isFetched, executes, executesAll, executesTimes}
 use Rattle.runs.proofs.Cases.{split, either}
 use Rattle.runs.proofs.Joins.{or-joins}
 use Rattle.runs.proofs.LinesLaws.{lines-stay, lines-grow, lines-none, has-add, has-other}
@@ -25,25 +25,21 @@ or-held false true h = h refl
 or-held false false h = refl
 
 module _ (t : Task) (pos : 0 < t .bus .period) (x : ℕ) (line : x < t .lines) where
-  -- line x is fetched
-  abbrev pub isIn : State → Bool
-  isIn s = placesOf t .hits x (s .at)
-
-  tick-in : (s : State) → isIn (tick (placesOf t) s) ≡ isIn s
+  tick-in : (s : State) → isFetched t x (tick (placesOf t) s) ≡ isFetched t x s
   unfolding tick withLines
   tick-in s = ap (has x) (lines-stay (t .bus .period) pos (t .lines) 1 (s .at))
 
-  pass-in : (d : ℕ) (s : State) → isIn (pass (placesOf t) d s) ≡ isIn s
+  pass-in : (d : ℕ) (s : State) → isFetched t x (pass (placesOf t) d s) ≡ isFetched t x s
   unfolding pass
   pass-in zero s = refl
   pass-in (suc d) s = pass-in d (tick (placesOf t) s) ∙ tick-in s
 
-  access-in : {e : ℕ} {s s' : State} → Access (t .bus) (placesOf t) e s s' → isIn s' ≡ isIn s
+  access-in : {e : ℕ} {s s' : State} → Access (t .bus) (placesOf t) e s s' → isFetched t x s' ≡ isFetched t x s
   access-in {e} {s} (start m) = pass-in e s
   access-in {e} {s} (hold m a) = access-in a ∙ tick-in s
 
   -- a fetch adds its line, and no other
-  fetched-in : (y : ℕ) (s : State) → isIn (fetched (placesOf t) y s) ≡ (isIn s || eqb y x)
+  fetched-in : (y : ℕ) (s : State) → isFetched t x (fetched (placesOf t) y s) ≡ (isFetched t x s || eqb y x)
   unfolding withLines
   fetched-in y s =
       split (t .lines) y
@@ -59,30 +55,30 @@ module _ (t : Task) (pos : 0 < t .bus .period) (x : ℕ) (line : x < t .lines) w
   mutual
     unfolding executes
 
-    pub met : {n : ℕ} {s s' : State} (r : Does (t .bus) (placesOf t) (t .nodeAt) n s s') → isIn s' ≡ (isIn s || executes x r)
-    met {n} {s} (passes lo hi d e i j f) = rw f (pass-in d s ∙ sym (or-joins .right (isIn s)))
-    met {n} {s} (may-pass lo hi d e i j f) = rw f (pass-in d s ∙ sym (or-joins .right (isIn s)))
-    met {n} {s} (accesses kind lo hi d e i j a) = access-in a ∙ sym (or-joins .right (isIn s))
+    pub met : {n : ℕ} {s s' : State} (r : Does (t .bus) (placesOf t) (t .nodeAt) n s s') → isFetched t x s' ≡ (isFetched t x s || executes x r)
+    met {n} {s} (passes lo hi d e i j f) = rw f (pass-in d s ∙ sym (or-joins .right (isFetched t x s)))
+    met {n} {s} (may-pass lo hi d e i j f) = rw f (pass-in d s ∙ sym (or-joins .right (isFetched t x s)))
+    met {n} {s} (accesses kind lo hi d e i j a) = access-in a ∙ sym (or-joins .right (isFetched t x s))
     met (first-time {m = m} y lo hi hit d e u i j a f) = rw f (fetched-in y m ∙ ap (λ (z : Bool). z || eqb y x) (access-in a))
     met {n} {s} (later-time y lo hi hit e h f) =
-        rw f (pass-in hit s ∙ or-held (isIn s) (eqb y x) (λ q. let same : y ≡ x = eqb-true y x q in rw same at h))
+        rw f (pass-in hit s ∙ or-held (isFetched t x s) (eqb y x) (λ q. let same : y ≡ x = eqb-true y x q in rw same at h))
     met (in-order ns e r) = met-all r
     met (one-of ns m e i r) = met r
     met (repeats least greatest body k e i j r) = met-times r
 
-    met-all : {ns : List ℕ} {s s' : State} (r : DoesAll (t .bus) (placesOf t) (t .nodeAt) ns s s') → isIn s' ≡ (isIn s || executesAll x r)
-    met-all {ns} {s} end = sym (or-joins .right (isIn s))
-    met-all {ns} {s} (next r rs) = met-all rs ∙ ap (λ (z : Bool). z || executesAll x rs) (met r) ∙ or-joins .assoc (isIn s) (executes x r) (executesAll x rs)
+    met-all : {ns : List ℕ} {s s' : State} (r : DoesAll (t .bus) (placesOf t) (t .nodeAt) ns s s') → isFetched t x s' ≡ (isFetched t x s || executesAll x r)
+    met-all {ns} {s} end = sym (or-joins .right (isFetched t x s))
+    met-all {ns} {s} (next r rs) = met-all rs ∙ ap (λ (z : Bool). z || executesAll x rs) (met r) ∙ or-joins .assoc (isFetched t x s) (executes x r) (executesAll x rs)
 
-    met-times : {k n : ℕ} {s s' : State} (r : DoesTimes (t .bus) (placesOf t) (t .nodeAt) k n s s') → isIn s' ≡ (isIn s || executesTimes x r)
-    met-times {k} {n} {s} enough = sym (or-joins .right (isIn s))
+    met-times : {k n : ℕ} {s s' : State} (r : DoesTimes (t .bus) (placesOf t) (t .nodeAt) k n s s') → isFetched t x s' ≡ (isFetched t x s || executesTimes x r)
+    met-times {k} {n} {s} enough = sym (or-joins .right (isFetched t x s))
     met-times {k} {n} {s} (again rs r) =
-        met r ∙ ap (λ (z : Bool). z || executes x r) (met-times rs) ∙ or-joins .assoc (isIn s) (executesTimes x rs) (executes x r)
+        met r ∙ ap (λ (z : Bool). z || executes x r) (met-times rs) ∙ or-joins .assoc (isFetched t x s) (executesTimes x rs) (executes x r)
 
   -- "at first none": so at the end of a run the lines fetched are those of the nodes executed
-  pub run-met : {s : State} (r : Run t s) → isIn s ≡ executes x (r .does)
+  pub run-met : {s : State} (r : Run t s) → isFetched t x s ≡ executes x (r .does)
   unfolding withLines
-  run-met r = met (r .does) ∙ ap (λ (z : Bool). z || executes x (r .does)) (not-yet (isIn (on (r .from) 0)) (lines-none (t .bus .period) pos (t .lines) x (r .from) (r .inside)))
+  run-met r = met (r .does) ∙ ap (λ (z : Bool). z || executes x (r .does)) (not-yet (isFetched t x (on (r .from) 0)) (lines-none (t .bus .period) pos (t .lines) x (r .from) (r .inside)))
     where
       not-yet : (b : Bool) → not b ≡ true → b ≡ false
       not-yet true e = sym e

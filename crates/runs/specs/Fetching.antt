@@ -7,7 +7,11 @@ use Prim.Native.Nat.{ℕ}
 use Rattle.runs.specs.Bus.{Bus}
 use Rattle.runs.specs.Clock.{Places, State}
 use Rattle.runs.specs.Nodes.{Node}
-use Rattle.runs.specs.Runs.{Does, DoesAll, DoesTimes, passes, may-pass, accesses, first-time, later-time, in-order, one-of, repeats, end, next, enough, again}
+use Rattle.runs.specs.Runs.{Task, placesOf, Does, DoesAll, DoesTimes, passes, may-pass, accesses, first-time, later-time, in-order, one-of, repeats, end, next, enough, again}
+
+-- whether line x is fetched in a state
+abbrev pub isFetched : Task → ℕ → State → Bool
+isFetched t x s = placesOf t .hits x (s .at)
 
 -- whether a node with line x is executed
 module _ {b : Bus} {q : Places} {nodeAt : ℕ → Node} (x : ℕ) where

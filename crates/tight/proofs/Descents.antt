@@ -20,7 +20,7 @@ use Rattle.image.specs.declared.nodes.Children.{Children}
 use Rattle.image.specs.declared.nodes.Loop.{Loop as LoopNumbers}
 use Rattle.image.proofs.Walks.{valid-at, node-place, as-plain, as-block, as-once, as-sequence, as-branch, as-loop as loop-node}
 use Rattle.image.proofs.Fetches.{few-sets}
-use Rattle.tight.specs.Steps.{sizeOf, table, afterAll, Walked, Sized, Held, PlainReady, BusReady, OnceReady, Ready, ReadyAll, ReadyRepeat, Branched}
+use Rattle.tight.specs.Steps.{sizeOf, table, afterAll, Walked, Sized, Steppable, PlainReady, BusReady, OnceReady, Ready, ReadyAll, ReadyRepeat, Branched}
 use Rattle.tight.proofs.Rooms.{room-less, room-fits}
 use Rattle.tight.proofs.Parts.{as-all, as-any}
 
@@ -48,7 +48,7 @@ module _ (s : List ℕ) (k : Task) (places : List ℕ) (node : ℕ) (t : List �
   pub in-places : node < 256
   in-places = node-place s k places (r .walkable) node (r .low) .1
 
-  pub held : Held k t
+  pub held : Steppable k t
   held = record { sized = sized s k places (r .walkable); size = r .size; fits = room-fits k _ t (r .room) }
 
   -- plain blocks

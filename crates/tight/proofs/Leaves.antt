@@ -11,9 +11,9 @@ use Rattle.bus.specs.Waits.{slotsOf}
 use Rattle.image.specs.declared.Task.{Task}
 use Rattle.image.proofs.Fetches.{few-sets}
 use Rattle.times.specs.Arrays.{Fits}
-use Rattle.lined.specs.Lined.{FitsFrom, OnceReady as RowsReady}
+use Rattle.lined.specs.Lined.{FitsFrom, RowsReady}
 use Rattle.lined.proofs.RowLaws.{half-has, row-fits}
-use Rattle.tight.specs.Steps.{sizeOf, Held, OnceReady}
+use Rattle.tight.specs.Steps.{sizeOf, Steppable, OnceReady}
 
 -- a set without a line has one with it
 paired : (n x j : ℕ) → x < n → j < power n → j / power x % 2 ≡ 0 → j + power x < power n
@@ -24,7 +24,7 @@ light : (x : ℕ) → x ≤ 3 → power x ≤ 8
 unfolding power
 light x h = omega (arith, few-sets (suc x) (omega arith))
 
-module _ (k : Task) (t : List ℕ) (h : Held k t) where
+module _ (k : Task) (t : List ℕ) (h : Steppable k t) where
   pub sets-fit : Fits (k .sets * periodOf (slotsOf (k .bus))) t
   sets-fit = rw (h .sized .sets-is) (h .fits)
 

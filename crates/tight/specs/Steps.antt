@@ -61,24 +61,24 @@ pub record Sized (k : Task) : Type 0 where
   pub few : k .sets ≤ 16
 
 -- an array that a block's step may be taken on
-pub record Held (k : Task) (t : List ℕ) : Type 0 where
+pub record Steppable (k : Task) (t : List ℕ) : Type 0 where
   pub sized : Sized k
   pub size : sizeOf k ≤ length t
   pub fits : Fits (sizeOf k) t
 
 -- what the blocks' steps ask of their numbers and of the array
 abbrev pub PlainReady : Task → ℕ → ℕ → List ℕ → Type 0
-PlainReady k lo hi t = Numbers (k .bus) Plain lo hi × Held k t
+PlainReady k lo hi t = Numbers (k .bus) Plain lo hi × Steppable k t
 
 abbrev pub BusReady : Task → ℕ → ℕ → List ℕ → Type 0
-BusReady k lo hi t = Numbers (k .bus) Always lo hi × Held k t
+BusReady k lo hi t = Numbers (k .bus) Always lo hi × Steppable k t
 
 pub record OnceReady (k : Task) (line lo hi hit : ℕ) (t : List ℕ) : Type 0 where
   pub access : Numbers (k .bus) Always lo hi
   pub short : hit ≤ 65535
   pub line-lt : line < k .lines
   pub lines-few : k .lines ≤ 4
-  pub held : Held k t
+  pub held : Steppable k t
 
 -- the walk of a node from an array
 pub record Ready (s : List ℕ) (k : Task) (places : List ℕ) (node : ℕ) (t : List ℕ) : Type 0 where

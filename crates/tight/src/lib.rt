@@ -164,9 +164,9 @@ fn repeat(image: &[u8], places: &[usize; 256], k: Task, node: usize, l: Loop, t:
         wide_repeat(image, places, k, node, l, t);
         return;
     }
-    let mut out = [18446744073709551615u64; 256];
+    let mut exits = [18446744073709551615u64; 256];
     let mut old = [18446744073709551615u64; 256];
-    turns(image, places, k, node, l, t, &mut out, &mut old);
+    turns(image, places, k, node, l, t, &mut exits, &mut old);
 }
 
 // The same where the image has lines.
@@ -174,9 +174,9 @@ fn wide_repeat(image: &[u8], places: &[usize; 256], k: Task, node: usize, l: Loo
     requires { ⌜ ReadyRepeat (now image) k (now places) node l (now t) ⌝ }
     ensures { λ _. ⌜ Walked k (Tree.loop (l .least) (l .greatest) (treeAt (now (image .entry)) (l .body))) (now (t .entry)) (now (t .exit)) ⌝ }
 {
-    let mut out = [18446744073709551615u64; 1024];
+    let mut exits = [18446744073709551615u64; 1024];
     let mut old = [18446744073709551615u64; 1024];
-    turns(image, places, k, node, l, t, &mut out, &mut old);
+    turns(image, places, k, node, l, t, &mut exits, &mut old);
 }
 
 // A loop unrolled until a cycle is found or all is done, whole cycles skipped, and the rest unrolled. The exits are joined to `out`; `old` is what is kept for the watch.
