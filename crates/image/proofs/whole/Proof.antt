@@ -102,7 +102,7 @@ returns-4 c =
     let v = rw q at (w .long) in
     let b = c .before .before .before .before .bus-at .ensures .0 in
     let x = c .before .before .power .ensures ∙ ap power (c .before .before .before .lines .ensures) in
-    let wide : 1024 < byteAt s 3 * byteAt s 4 * power (linesOf s (n - 2)) = rw (b, x) at (c .if4 .taken) in
+    let wide : 1024 < byteAt s 3 * byteAt s 4 * power (linesOf s (n - 2)) = omega (arith, rw (b, x) at (c .if4 .taken)) in
     simp (
       le-ltb n 3 (c .before .before .before .before .before .before .before .before .before .before .if1 .left),
       le-ltb 24 (depth (treeAt s (n - 3))) (omega (arith, d, c .before .before .before .before .before .before .before .if2 .left)),
@@ -129,7 +129,7 @@ returns-5 c =
     let b = c .before .before .before .before .before .bus-at .ensures .0 in
     let l = c .before .before .before .before .lines .ensures in
     let x = c .before .before .before .power .ensures ∙ ap power l in
-    let narrow : byteAt s 3 * byteAt s 4 * power (linesOf s (n - 2)) ≤ 1024 = rw (b, x) at (c .before .if4 .left) in
+    let narrow : byteAt s 3 * byteAt s 4 * power (linesOf s (n - 2)) ≤ 1024 = omega (arith, rw (b, x) at (c .before .if4 .left)) in
     rw (b, c .word .ensures .0, x, l)
     (simp (
       le-ltb n 3 (c .before .before .before .before .before .before .before .before .before .before .before .if1 .left),
