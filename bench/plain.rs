@@ -1,10 +1,10 @@
 //! The job of `figure` done the plain way, for the comparison of speed (bench/README.md): a task image on standard input, its listing on
-//! standard output, as document 01 and request W9 of document 02 have them, refusals included. Standard library only.
+//! standard output, as document 01 and requests W5 and W9 of document 02 have them, refusals included. Standard library only.
 //!
 //! The plain way: each visit of a block takes every reached offset and every duration, and a loop is unrolled by a plain loop; where an image
-//! has lines, there is one table of longest times for each set of lines fetched. Nothing is kept from one visit to another and no iteration is
-//! skipped. What it does not do: it has no library entry that is lent a table, so that number 10 never comes up; and nothing about it is
-//! proved.
+//! has lines, there is one table of longest times for each set of lines fetched. With equal slots a wait is worked out where it is asked for;
+//! with a schedule there is a table of them, made once. Nothing else is kept from one visit to another and no iteration is skipped. What it
+//! does not do: it has no library entry that is lent a table, so that number 10 never comes up; and nothing about it is proved.
 
 use std::fmt::Write as _;
 use std::io::{Read, Write};
@@ -16,12 +16,14 @@ const NONE: u64 = u64::MAX;
 /// For each offset below the period whether it is in the set.
 type Set = [bool; 256];
 
-/// The core's slot on the bus: its first offset, its length, and the period, cores × slot.
-#[derive(Clone, Copy, Default)]
+/// The period, and the longest access of the core. With equal slots that is the core's slot, which begins at `first`; a schedule has a table
+/// of waits instead, by duration and offset.
+#[derive(Default)]
 struct Bus {
-    first: usize,
-    slot: usize,
     period: usize,
+    longest: usize,
+    first: usize,
+    waits: Vec<[u8; 256]>,
 }
 
 /// Any duration from lowest to highest: passed, accessed for, or either.
@@ -89,7 +91,7 @@ fn judge(image: &[u8]) -> Result<Task<'_>, Refusal> {
         let refuse = |number| Err(Refusal { number, place });
         let [tag, high, low, rest @ ..] = &image[place..] else { return refuse(1) };
         let tag_fits = match field {
-            0 => *tag == 1,
+            0 => *tag == 1 || *tag == 9,
             1 => *tag == 2,
             _ => (3..=7).contains(tag) || *tag == 10,
         };
@@ -107,6 +109,7 @@ fn judge(image: &[u8]) -> Result<Task<'_>, Refusal> {
             5 => (2..=32).contains(&length) && length % 2 == 0,
             6 => (4..=16).contains(&length) && length % 2 == 0,
             7 => length == 6,
+            9 => (3..=65).contains(&length) && length % 2 == 1,
             _ => length == 5,
         };
         if !length_fits {
@@ -119,7 +122,11 @@ fn judge(image: &[u8]) -> Result<Task<'_>, Refusal> {
                 if !(2..=16).contains(&cores) || !(1..=128).contains(&slot) || core >= cores || cores * slot > 256 {
                     return refuse(5);
                 }
-                task.bus = Bus { first: core * slot, slot, period: cores * slot };
+                task.bus = Bus { period: cores * slot, longest: slot, first: core * slot, waits: Vec::new() };
+            }
+            9 => {
+                let Some(bus) = schedule(body) else { return refuse(5) };
+                task.bus = bus;
             }
             2 => {
                 let below_period = body.iter().all(|&o| (o as usize) < task.bus.period);
@@ -156,6 +163,38 @@ fn word(bytes: &[u8]) -> usize {
     bytes[0] as usize * 256 + bytes[1] as usize
 }
 
+/// The bus of a schedule, the analysed core and pairs of core and slot length, or none where a number breaks its row's rules.
+fn schedule(body: &[u8]) -> Option<Bus> {
+    let mut owned = Vec::new(); // for each offset whether the analysed core owns it
+    for pair in body[1..].chunks_exact(2) {
+        let (core, slot) = (pair[0], pair[1] as usize);
+        if core > 15 || !(1..=128).contains(&slot) {
+            return None;
+        }
+        owned.resize(owned.len() + slot, core == body[0]);
+    }
+    let period = owned.len();
+    if period > 256 || !owned.contains(&true) {
+        return None;
+    }
+    // the owned cycles from each offset on, at most the period: twice round, from the last offset back
+    let (mut stretches, mut stretch) = ([0; 256], 0);
+    for o in (0..period).rev().chain((0..period).rev()) {
+        stretch = if owned[o] { period.min(stretch + 1) } else { 0 };
+        stretches[o] = stretch;
+    }
+    let longest = stretches.into_iter().max()?;
+    let mut waits = vec![[0; 256]; longest + 1];
+    for (duration, waits) in waits.iter_mut().enumerate() {
+        let mut wait = 0;
+        for o in (0..period).rev().chain((0..period).rev()) {
+            wait = if stretches[o] >= duration { 0 } else { wait + 1 };
+            waits[o] = wait;
+        }
+    }
+    Some(Bus { period, longest, first: 0, waits })
+}
+
 /// The node of a field, or none where a number breaks its row's rules.
 fn node<'a>(tag: u8, body: &'a [u8], bus: &Bus) -> Option<Node<'a>> {
     let (node, good) = match tag {
@@ -165,7 +204,7 @@ fn node<'a>(tag: u8, body: &'a [u8], bus: &Bus) -> Option<Node<'a>> {
         }
         4 => {
             let (kind, lowest, highest) = (body[0], body[1] as usize, body[2] as usize);
-            let good = (kind == 1 || kind == 2) && 1 <= lowest && lowest <= highest && highest <= bus.slot;
+            let good = (kind == 1 || kind == 2) && 1 <= lowest && lowest <= highest && highest <= bus.longest;
             (Node::Bus(Block { passes: kind == 1, accesses: true, lowest, highest }), good)
         }
         5 => (Node::Sequence(body), true),
@@ -176,7 +215,7 @@ fn node<'a>(tag: u8, body: &'a [u8], bus: &Bus) -> Option<Node<'a>> {
         }
         _ => {
             let (line, lowest, highest, hit) = (body[0], body[1], body[2], word(&body[3..]) as u16);
-            let good = line <= 3 && 1 <= lowest && lowest <= highest && highest as usize <= bus.slot;
+            let good = line <= 3 && 1 <= lowest && lowest <= highest && highest as usize <= bus.longest;
             (Node::Once(Once { line, lowest, highest, hit }), good)
         }
     };
@@ -214,7 +253,7 @@ impl Task<'_> {
     /// Every execution of a block from an offset: the offset at which it ends, and its cycles.
     #[inline(always)]
     fn executions(&self, block: &Block, offset: usize, mut each: impl FnMut(usize, u64)) {
-        let Bus { first, slot, period } = self.bus;
+        let Bus { period, longest: slot, first, ref waits } = self.bus;
         if block.passes {
             let mut end = (offset + block.lowest) % period;
             for duration in block.lowest..block.highest + 1 {
@@ -222,7 +261,12 @@ impl Task<'_> {
                 end = if end + 1 == period { 0 } else { end + 1 };
             }
         }
-        if block.accesses {
+        if block.accesses && !waits.is_empty() {
+            for duration in block.lowest..block.highest + 1 {
+                let cycles = waits[duration][offset] as usize + duration;
+                each((offset + cycles) % period, cycles as u64);
+            }
+        } else if block.accesses {
             for duration in block.lowest..block.highest + 1 {
                 let wait = if offset < first {
                     first - offset

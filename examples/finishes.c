@@ -31,11 +31,24 @@ static int read_waits(const char *waits, struct slotfigures_task *task) {
     }
 }
 
+/* reads the bus of an accepted image, the core that owns each offset below the period, and gives the task's own core. Field 1 has tag 1, with
+ * cores, slot and core in bytes 3 to 5, or tag 9, with the core in byte 3 and then pairs of core and slot length; its length is in byte 2 */
+static uint8_t read_bus(const uint8_t *image, uint8_t *owner) {
+    size_t i;
+    if (image[0] == 9) {
+        for (i = 4; i < 3u + image[2]; owner += image[i + 1], i += 2) memset(owner, image[i], image[i + 1]);
+        return image[3];
+    }
+    for (i = 0; i < image[3]; owner += image[4], i++) memset(owner, (int)i, image[4]);
+    return image[5];
+}
+
 /* reads the core and the time of a task off the image in a file: NULL, or what is wrong with it */
 static const char *read_image(const char *file, struct slotfigures_task *task) {
-    static uint8_t image[16384 + 1], bus[2];
-    static uint64_t table[SLOTFIGURES_MOST_PLACES];
+    static uint8_t image[16384 + 1], first[SLOTFIGURES_MOST_PLACES], bus[SLOTFIGURES_MOST_PLACES];
+    static uint64_t table[SLOTFIGURES_MOST_PLACES], period; /* that of the first image */
     static char refused[64];
+    const uint8_t *starts;
     uint64_t answer[3];
     FILE *in = fopen(file, "rb");
     size_t n = in ? fread(image, 1, sizeof image, in) : 0;
@@ -47,15 +60,20 @@ static const char *read_image(const char *file, struct slotfigures_task *task) {
         sprintf(refused, "refused %" PRIu64 " %" PRIu64, answer[0], answer[1]);
         return refused;
     }
-    task->core = image[5];
+    task->core = read_bus(image, bus);
     task->time = answer[0];
     /* The tight figure holds only for the starts that the image lists, and a task may start at any offset. An accepted image lists each start
-     * once and below the period, so it lists every offset if field 2's length, bytes 7 and 8 with the high byte first, is the period. */
+     * once and below the period, so it lists every offset if field 2's length, two bytes with the high byte first, is the period. Field 2 stands
+     * behind field 1, wherever that ends. */
     slotfigures_judge(image, n, answer, 3);
-    if (image[7] * 256u + image[8] != answer[1]) return "it does not list every offset as a start: its tight figure is no time";
-    /* all tasks run on one bus: its cores and its slot, bytes 3 and 4, are those of the first image */
-    if (bus[0] == 0) memcpy(bus, image + 3, 2);
-    return memcmp(bus, image + 3, 2) == 0 ? NULL : "its bus is not that of the first image";
+    starts = image + 3 + image[2];
+    if (starts[1] * 256u + starts[2] != answer[1]) return "it does not list every offset as a start: its tight figure is no time";
+    /* all tasks run on one bus: each offset has the owner that it has in the first image */
+    if (period == 0) {
+        period = answer[1];
+        memcpy(first, bus, sizeof first);
+    }
+    return period == answer[1] && memcmp(first, bus, period) == 0 ? NULL : "its bus is not that of the first image";
 }
 
 int main(int argc, char **argv) {

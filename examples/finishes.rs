@@ -23,11 +23,24 @@ fn read_waits(waits: &OsStr) -> Option<Vec<usize>> {
     }
 }
 
-// What a task's image says: its bus, cores and slot, its core, and its tight figure.
+// What a task's image says: its core, its bus, which is the core that owns each offset below the period, and its tight figure.
 struct Image {
-    bus: [u8; 2],
-    core: usize,
+    core: u8,
+    bus: Vec<u8>,
     tight: u64,
+}
+
+// The core and the bus of an accepted image. Field 1 has tag 1, with cores, slot and core in bytes 3 to 5, or tag 9, with the core in byte 3 and then
+// pairs of core and slot length; its length is in byte 2.
+fn read_bus(image: &[u8]) -> (u8, Vec<u8>) {
+    let slot = |core: u8, length: u8| vec![core; length.into()];
+    if image[0] == 9 {
+        let pairs = image[4..3 + usize::from(image[2])].chunks(2);
+        (image[3], pairs.flat_map(|p| slot(p[0], p[1])).collect())
+    } else {
+        let cores = 0..image[3];
+        (image[5], cores.flat_map(|c| slot(c, image[4])).collect())
+    }
 }
 
 // The image in a file; or what is wrong with it.
@@ -44,16 +57,15 @@ fn read_image(file: &OsStr) -> Result<Image, String> {
         .map_err(refused)?
         .tight;
     // The tight figure holds only for the starts that the image lists, and a task may start at any offset. An accepted image lists each start
-    // once and below the period, so it lists every offset if field 2's length, bytes 7 and 8 with the high byte first, is the period.
-    let starts = u16::from_be_bytes([image[7], image[8]]);
+    // once and below the period, so it lists every offset if field 2's length, two bytes with the high byte first, is the period. Field 2 stands
+    // behind field 1, wherever that ends.
+    let field_2 = 3 + usize::from(image[2]);
+    let starts = u16::from_be_bytes([image[field_2 + 1], image[field_2 + 2]]);
     if usize::from(starts) != period(&image).map_err(refused)? {
         return Err("it does not list every offset as a start: its tight figure is no time".into());
     }
-    Ok(Image {
-        bus: [image[3], image[4]],
-        core: image[5].into(),
-        tight,
-    })
+    let (core, bus) = read_bus(&image);
+    Ok(Image { core, bus, tight })
 }
 
 // A line for each task, or the refusal, on standard output.
@@ -95,15 +107,15 @@ fn main() -> ExitCode {
     let mut first_bus = None;
     for (words, waits) in words.chunks(2).zip(&read) {
         let image = match read_image(&words[0]) {
-            // all tasks run on one bus
-            Ok(image) if *first_bus.get_or_insert(image.bus) != image.bus => {
+            // all tasks run on one bus: each offset has the owner that it has in the first image
+            Ok(image) if *first_bus.get_or_insert_with(|| image.bus.clone()) != image.bus => {
                 return told(1, &words[0], "its bus is not that of the first image")
             }
             Ok(image) => image,
             Err(what) => return told(1, &words[0], &what),
         };
         tasks.push(Task {
-            core: image.core,
+            core: image.core.into(),
             time: image.tight,
             waits,
         });

@@ -37,10 +37,10 @@ enum {
  * entry's index, or 0 for the table's size. */
 enum {
     SLOTFIGURES_CUT = 1,        /* "cut": 1 or 2 bytes left where a field's head should stand, or a body with bytes missing */
-    SLOTFIGURES_TAG = 2,        /* "tag": the first field's tag is not 1, the second's not 2, or a later one's neither 3 to 7 nor 10 */
+    SLOTFIGURES_TAG = 2,        /* "tag": the first field's tag is neither 1 nor 9, the second's not 2, or a later one's neither 3 to 7 nor 10 */
     SLOTFIGURES_FULL = 3,       /* "full": a 257th node field */
     SLOTFIGURES_LENGTH = 4,     /* "length": a body length that the tag does not permit */
-    SLOTFIGURES_VALUE = 5,      /* "value": a number that breaks the rules of its field, order and products included; or the durations
+    SLOTFIGURES_VALUE = 5,      /* "value": a number that breaks the rules of its field, order, products and sums included; or the durations
                                    given for a block do */
     SLOTFIGURES_FORWARD = 6,    /* "forward": a child number not below the node's own */
     SLOTFIGURES_UNFINISHED = 7, /* "unfinished": the image ends, between fields, before a node field */
@@ -121,7 +121,8 @@ struct slotfigures_task {
 /* Works out the finish of each task: its time plus the largest finish among those it waits for and the previous task on its core (plus 0
  * where there are none). If every task starts as soon as those have ended and takes no longer than its time, each starts by its finish less
  * its time, and none ends after its finish. A tight figure may be a time only if its image lists every offset below its period as a start,
- * since a task may start at any; the image is then one of this core, and all images are of one bus (the same cores and slot).
+ * since a task may start at any; the image is then one of this core, and all images are of one bus (in all of them the same core owns each
+ * offset).
  *   table     the numbers of 1 to 64 entries. table_length counts numbers, eleven to an entry: for `struct slotfigures_task t[n]` pass
  *             (const uint64_t *)t and 11 * n. A length that is no multiple of eleven is that of no table (21, place 0)
  *   finishes  at least 64 places. DONE: place i holds the finish of task i, which may be 0, or 0 past the table. REFUSED: 64 times 0.
@@ -131,7 +132,7 @@ struct slotfigures_task {
 uint64_t slotfigures_finishes(const uint64_t *table, size_t table_length, uint64_t *finishes, size_t finishes_length,
                               uint64_t *answer, size_t answer_length);
 
-/* The bus arbiter as a device. Its state is 51 bytes, lent to each call and kept by their owner between calls:
+/* The arbiter of a bus of equal slots as a device. Its state is 51 bytes, lent to each call and kept by their owner between calls:
  *   byte 0       cores, 2 to 16
  *   byte 1       slot, the cycles of each core's slot: 1 to 128, and cores times slot, the period, at most 256
  *   byte 2       offset, the cycle number modulo the period: below it. Core p owns the offsets p * slot to (p + 1) * slot - 1
@@ -157,8 +158,9 @@ uint64_t slotfigures_finishes(const uint64_t *table, size_t table_length, uint64
  * What is proved of these calls, one after another on one state (a call that is SHORT is none):
  *   - They lead where the permitted ones among them lead, those that are not refused with 17; so the other laws hold of calls with callers.
  *   - Of states reached by calls from a reset: a length whose write is DONE at offset o is done after wait + length ticks and no sooner, if
- *     no reset comes between. The wait is that of an access of this length from offset o, the same that both figures go by: 0 if
- *     core * slot <= o <= (core + 1) * slot - length, else (core * slot + period - o) % period. Other calls, of every core, may come in between.
+ *     no reset comes between. The wait is that of an access of this length from offset o, the same that both figures go by on such a bus: 0
+ *     if core * slot <= o <= (core + 1) * slot - length, else (core * slot + period - o) % period. Other calls, of every core, may come in
+ *     between.
  *   - From one state, with this core's own writes and all ticks and resets equal and in the same order, the other cores' writes never alter
  *     this core's registers or line.
  *   - From one reset that is DONE on, with a core's own calls and the workshop's ticks and resets equal and in the same order, every answer to

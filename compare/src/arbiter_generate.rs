@@ -4,7 +4,7 @@
 use crate::arbiter_cases::{self, line, read, reset, write, ABOVE, TICK};
 use crate::arbiter_laws::is_alike;
 use crate::device::{Call, Sequence, BYTES, CORES, WORKSHOP};
-use crate::generate::{random_bus, Random};
+use crate::generate::{random_cores, Random};
 use std::collections::HashSet;
 
 /// What is tried with the program's own answers.
@@ -153,7 +153,7 @@ fn any_bytes(random: &mut Random) -> Vec<u8> {
 /// All cores write, and the workshop ticks, from a reset on; other resets, refused and forbidden calls come in between.
 fn from_reset(random: &mut Random) -> Sequence {
     let state = any_bytes(random);
-    let (mut cores, mut slot, _) = random_bus(random);
+    let (mut cores, mut slot) = random_cores(random);
     let most = random.from(20, MOST_CALLS) as usize;
     // all cores write, or a few
     let (first, writers) = (random.below(cores), if random.once_in(2) { CORES as u64 } else { random.from(1, cores) });
@@ -168,7 +168,7 @@ fn from_reset(random: &mut Random) -> Sequence {
             37..=38 => calls.push(refused_call(random, cores, slot)),
             39..=41 => calls.push(forbidden_call(random, cores, slot)),
             _ if random.once_in(3) => {
-                (cores, slot, _) = random_bus(random);
+                (cores, slot) = random_cores(random);
                 calls.push(reset(cores, slot));
             }
             _ => {}
@@ -180,7 +180,7 @@ fn from_reset(random: &mut Random) -> Sequence {
 
 /// A good state, reached or not: cores may have what no calls lead to.
 fn good_state(random: &mut Random) -> Vec<u8> {
-    let (cores, slot, _) = random_bus(random);
+    let (cores, slot) = random_cores(random);
     let offset = if random.once_in(3) { cores * slot - 1 } else { random.below(cores * slot) };
     let mut state = vec![cores as u8, slot as u8, offset as u8];
     for _ in 0..CORES {
@@ -277,7 +277,7 @@ fn pair(random: &mut Random, from_one_state: bool) -> (Sequence, Sequence, Law) 
             _ if place == 0 && !from_one_state => vec![reset(cores, slot)],
             0..=1 => vec![random_write(random, core, slot)],
             2 if random.once_in(12) => {
-                (cores, slot, _) = random_bus(random);
+                (cores, slot) = random_cores(random);
                 vec![reset(cores, slot)]
             }
             3 => vec![read(core, random.below(3)), refused_call(random, cores, slot)],

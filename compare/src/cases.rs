@@ -1,6 +1,9 @@
 //! Images written by hand: the worked tasks, both sides of every limit, and inputs where more than one refusal holds.
 
-use crate::generate::{blank_nodes, branch, bus, bus_block, fetch, field, looped, plain, sequence, starts, Cases, Expected};
+use crate::generate::{
+    blank_nodes, branch, bus, bus_block, fetch, field, looped, plain, schedule, sequence, starts, Cases, Expected,
+};
+use crate::image::bus_of;
 use Expected::{Accepted, Open, Refused};
 
 /// Cores 2, slot 5, core 0, as in "Worked tasks".
@@ -413,11 +416,364 @@ pub fn limits_of_lines(cases: &mut Cases) {
     }
 }
 
+/// Slots of unequal length, change request W5: tasks with what `figure` writes for them, worked out here. P = 10 unless said.
+pub fn worked_schedules(cases: &mut Cases) {
+    let mut task = |field_1: &[u8], from: &[u8], nodes: &[Vec<u8>], figures: (u64, u64), exits: &[(u64, u64)]| {
+        let image = [field_1.to_vec(), starts(from), nodes.concat()].concat();
+        cases.add("worked schedules", image, listing(figures, exits));
+    };
+    // an access of e cycles from an offset, which takes its wait and e cycles
+    let mut waits = |field_1: &[u8], (period, e): (u64, u8), waits: &[(u8, u64)]| {
+        for &(offset, wait) in waits {
+            let time = wait + u64::from(e);
+            let end = (u64::from(offset) + time) % period;
+            task(field_1, &[offset], &[bus_block(2, e, e)], (time, time), &[(end, time)]);
+        }
+    };
+    // two slots: core 0 owns 0 to 2, and 5 and 6, which are too few for e = 3; core 1 owns 3 and 4, and 7 to 9
+    let (two, other) = (two_slots(0), two_slots(1));
+    waits(&two, (10, 1), &[(0, 0), (2, 0), (3, 2), (4, 1), (5, 0), (6, 0), (7, 3), (9, 1)]);
+    waits(&two, (10, 2), &[(0, 0), (1, 0), (2, 3), (3, 2), (4, 1), (5, 0), (6, 4), (7, 3), (9, 1)]);
+    waits(&two, (10, 3), &[(0, 0), (1, 9), (2, 8), (3, 7), (4, 6), (5, 5), (6, 4), (9, 1)]);
+    waits(&other, (10, 2), &[(0, 3), (2, 1), (3, 0), (4, 3), (5, 2), (7, 0), (8, 0), (9, 4)]);
+    waits(&other, (10, 3), &[(0, 7), (3, 4), (4, 3), (6, 1), (7, 0), (8, 9), (9, 8)]);
+    // round the period: core 0 owns 7 to 9 and goes on with 0 and 1
+    let round = schedule(0, &[(0, 2), (1, 5), (0, 3)]);
+    waits(&round, (10, 1), &[(1, 0), (2, 5), (6, 1), (7, 0), (9, 0), (0, 0)]);
+    waits(&round, (10, 2), &[(9, 0), (0, 0), (1, 6), (2, 5), (7, 0)]);
+    waits(&round, (10, 3), &[(7, 0), (8, 0), (9, 0), (0, 7), (1, 6)]);
+    waits(&round, (10, 4), &[(7, 0), (8, 0), (9, 8), (0, 7)]);
+    waits(&round, (10, 5), &[(7, 0), (8, 9), (9, 8), (0, 7), (1, 6), (2, 5), (6, 1)]);
+    // the core between owns 2 to 6
+    waits(&schedule(1, &[(0, 2), (1, 5), (0, 3)]), (10, 5), &[(2, 0), (3, 9), (0, 2), (9, 3)]);
+    // neighbouring pairs: core 3 owns 2 to 5
+    let neighbours = schedule(3, &[(1, 2), (3, 1), (3, 1), (3, 2), (1, 4)]);
+    waits(&neighbours, (10, 2), &[(2, 0), (4, 0), (5, 7), (6, 6)]);
+    waits(&neighbours, (10, 3), &[(2, 0), (3, 0), (4, 8)]);
+    waits(&neighbours, (10, 4), &[(2, 0), (3, 9), (0, 2), (9, 3)]);
+    // both: core 2 owns 6 to 9 and goes on with 0 and 1
+    let both = schedule(2, &[(2, 1), (2, 1), (0, 4), (2, 1), (2, 3)]);
+    waits(&both, (10, 3), &[(8, 0), (9, 0), (0, 6), (1, 5)]);
+    waits(&both, (10, 5), &[(6, 0), (7, 0), (8, 8)]);
+    waits(&both, (10, 6), &[(6, 0), (7, 9), (1, 5), (2, 4)]);
+    // P = 6, between the core's slots two others, which are none of its own: core 0 owns 4 and 5 and goes on with 0 and 1
+    waits(&schedule(0, &[(0, 2), (1, 1), (2, 1), (0, 2)]), (6, 4), &[(4, 0), (5, 5), (0, 4), (3, 1)]);
+    // P = 6, the first and the last of three: core 0 owns 4 and 5 and goes on with 0, and it owns 2
+    let three = schedule(0, &[(0, 1), (1, 1), (0, 1), (1, 1), (0, 2)]);
+    waits(&three, (6, 1), &[(1, 1), (2, 0), (3, 1), (0, 0)]);
+    waits(&three, (6, 2), &[(4, 0), (5, 0), (0, 4), (2, 2)]);
+    waits(&three, (6, 3), &[(4, 0), (5, 5), (0, 4), (1, 3), (2, 2)]);
+    // a short stretch is passed over: core 0 owns 0, and 2 to 5
+    let short = schedule(0, &[(0, 1), (1, 1), (0, 4), (1, 4)]);
+    waits(&short, (10, 1), &[(0, 0), (1, 1), (5, 0), (6, 4), (9, 1)]);
+    waits(&short, (10, 2), &[(9, 3), (0, 2), (1, 1), (2, 0), (4, 0), (5, 7), (6, 6)]);
+    waits(&short, (10, 4), &[(2, 0), (3, 9), (9, 3), (0, 2)]);
+    // two of them: core 4 owns 0, 2 and 3, and 5 to 7
+    let shorter = schedule(4, &[(4, 1), (9, 1), (4, 2), (9, 1), (4, 3), (9, 2)]);
+    waits(&shorter, (10, 2), &[(0, 2), (1, 1), (3, 2), (6, 0), (7, 5), (8, 4)]);
+    waits(&shorter, (10, 3), &[(0, 5), (2, 3), (3, 2), (5, 0), (6, 9), (8, 7)]);
+    // the longest comes first: core 6 owns 1 to 4, and 6 and 7
+    let longer = schedule(6, &[(2, 1), (6, 4), (2, 1), (6, 2), (0, 2)]);
+    waits(&longer, (10, 3), &[(1, 0), (2, 0), (3, 8), (5, 6), (6, 5), (7, 4)]);
+    waits(&longer, (10, 2), &[(3, 0), (4, 2), (5, 1), (6, 0), (7, 4), (8, 3)]);
+    // a lone core owns every cycle: P = 5 in one slot or in two, P = 1, P = 2, and P = 256 with durations up to 255
+    for pairs in [vec![(7, 5)], vec![(7, 2), (7, 3)], vec![(7, 1); 5]] {
+        for e in 1..=5 {
+            waits(&schedule(7, &pairs), (5, e), &[(0, 0), (1, 0), (3, 0), (4, 0)]);
+        }
+    }
+    waits(&schedule(0, &[(0, 1)]), (1, 1), &[(0, 0)]);
+    waits(&schedule(9, &[(9, 1), (9, 1)]), (2, 2), &[(0, 0), (1, 0)]);
+    for e in [1, 2, 127, 128, 129, 254, 255] {
+        waits(&schedule(15, &[(15, 128), (15, 128)]), (256, e), &[(0, 0), (1, 0), (127, 0), (128, 0), (129, 0), (255, 0)]);
+    }
+    // P = 256, all but 127: core 0 owns 128 to 255 and goes on with 0 to 126. The longest wait with its access takes 510 cycles.
+    let all_but_one = schedule(0, &[(0, 127), (1, 1), (0, 128)]);
+    waits(&all_but_one, (256, 255), &[(128, 0), (129, 255), (126, 2), (127, 1), (0, 128), (255, 129)]);
+    waits(&all_but_one, (256, 254), &[(128, 0), (129, 0), (130, 254), (127, 1)]);
+    waits(&all_but_one, (256, 1), &[(126, 0), (127, 1), (128, 0), (255, 0), (0, 0)]);
+    waits(&schedule(1, &[(0, 127), (1, 1), (0, 128)]), (256, 1), &[(127, 0), (128, 255), (126, 1), (0, 127)]);
+    waits(&schedule(0, &[(0, 128), (1, 128)]), (256, 128), &[(0, 0), (1, 255), (255, 1)]);
+    waits(&schedule(1, &[(0, 128), (1, 128)]), (256, 128), &[(128, 0), (129, 255), (0, 128)]);
+    // P = 4 of cores 3 and 15, P = 2
+    waits(&schedule(15, &[(3, 2), (15, 2)]), (4, 2), &[(0, 2), (1, 1), (2, 0), (3, 3)]);
+    waits(&schedule(1, &[(0, 1), (1, 1)]), (2, 1), &[(0, 1), (1, 0)]);
+
+    // two slots: 1 to 3 cycles from {4}: 6 after 2, 7 after 3, and with a wait of 6: 3 after 9
+    task(&two, &[4], &[bus_block(2, 1, 3)], (9, 9), &[(3, 9), (6, 2), (7, 3)]);
+    // may access for 2 from {6}: 8 after 2, or with a wait of 4: 2 after 6
+    task(&two, &[6], &[bus_block(1, 2, 2)], (6, 6), &[(2, 6), (8, 2)]);
+    // A2 from all ten offsets, by the waits above: from 0 and 1 it ends at 2 and 3 after 2; from 2 to 5 at 7, after 5 from 2; from 6 to 9
+    // at 2, after 6 from 6
+    let all_ten: Vec<u8> = (0..10).collect();
+    task(&two, &all_ten, &[a2()], (6, 6), &[(2, 6), (3, 2), (7, 5)]);
+    // A2 and then 1 cycle, from {5, 6}. From 6: 2 after 6, then 3 after 7. From 5: 7 after 2, then a wait of 3: 1 after 6. Published: the
+    // first costs 6, from {2, 7} the second costs 4.
+    task(&two, &[5, 6], &[a2(), bus_block(2, 1, 1), sequence(&[0, 1])], (7, 10), &[(1, 6), (3, 7)]);
+    // A2 in a loop of 1 to 3 from {4}: 7 after 3, then waits of 3 each: 2 after 8, 7 after 13
+    task(&two, &[4], &[a2(), looped(1, 3, 0)], (13, 13), &[(2, 8), (7, 13)]);
+    // a branch of A2 and plain 4 from {6}
+    task(&two, &[6], &[a2(), plain(4, 4), branch(&[0, 1])], (6, 6), &[(0, 4), (2, 6)]);
+    // fetched once, 2 cycles and a hit of 1, twice from {6}: 2 after 6, then 3 after 7. Published: {6} costs 6 and ends at {2, 7}, from
+    // both an access takes 5.
+    task(&two, &[6], &[fetch(0, 2, 2, 1), looped(2, 2, 0)], (7, 11), &[(3, 7)]);
+    // 3 cycles from {5} pass the short stretch over: a wait of 5, 3 after 8. Published: a hit of 9 costs more.
+    task(&two, &[5], &[fetch(3, 3, 3, 9)], (8, 9), &[(3, 8)]);
+    // round the period: 5 cycles in a loop of 3 from {7}: 2 after 5, then waits of 5 each
+    task(&round, &[7], &[bus_block(2, 5, 5), looped(3, 3, 0)], (25, 25), &[(2, 25)]);
+    // A2 twice from {8, 9}: 0 after 2 and 1 after 2; then 2 after 4, and with a wait of 6: 9 after 10. Published: 2 and 8.
+    task(&round, &[8, 9], &[a2(), sequence(&[0, 0])], (10, 10), &[(2, 4), (9, 10)]);
+    // plain blocks go by the period alone
+    task(&round, &[9], &[plain(4, 4)], (4, 4), &[(3, 4)]);
+    // a lone core in a loop: no wait, 5 cycles each, from {3}; P = 1, where every run ends at 0
+    task(&schedule(7, &[(7, 5)]), &[3], &[bus_block(2, 5, 5), looped(0, 10_000, 0)], (50_000, 50_000), &[(3, 50_000)]);
+    let one = schedule(0, &[(0, 1)]);
+    task(&one, &[0], &[plain(0, 63)], (63, 63), &[(0, 63)]);
+    task(&one, &[0], &[bus_block(1, 1, 1), looped(7, 10_000, 0)], (10_000, 10_000), &[(0, 10_000)]);
+    // fetched once: 1 and then a hit of 9. Published: 9 each.
+    task(&one, &[0], &[fetch(3, 1, 1, 9), sequence(&[0, 0])], (10, 18), &[(0, 10)]);
+    // 256 cycles each time, and 254 more for the first from {129}
+    let long = [bus_block(2, 255, 255), looped(10_000, 10_000, 0)];
+    task(&all_but_one, &[127], &long, (2_560_000, 2_560_000), &[(127, 2_560_000)]);
+    task(&all_but_one, &[129], &long, (2_560_254, 2_560_254), &[(127, 2_560_254)]);
+}
+
+/// Every period of up to 5 cycles of which a core owns some, and every access that fits, from every offset. A slot has one cycle, or as
+/// many as can be.
+pub fn small_schedules(cases: &mut Cases) {
+    for period in 1..=5u8 {
+        for owned in 1..1u8 << period {
+            let cycles: Vec<(u8, u8)> = (0..period).map(|cycle| (owned >> cycle & 1, 1)).collect();
+            let slots: Vec<(u8, u8)> = cycles.chunk_by(|a, b| a.0 == b.0).map(|slot| (slot[0].0, slot.len() as u8)).collect();
+            let longest = bus_of(9, &schedule(1, &cycles)[3..]).longest_access() as u8;
+            for e in 1..=longest {
+                for offset in 0..period {
+                    let field_1 = schedule(1, if (e + offset) % 2 == 0 { &cycles } else { &slots });
+                    let image = [field_1, starts(&[offset]), bus_block(2, e, e)].concat();
+                    cases.add("small schedules", image, Accepted);
+                }
+            }
+        }
+    }
+}
+
+/// Core 0 owns 0 to 2, 5 and 6, core 1 the other cycles of ten.
+pub fn two_slots(core: u8) -> Vec<u8> {
+    schedule(core, &[(0, 3), (1, 2), (0, 2), (1, 3)])
+}
+
+/// "the analysed core, then 1 to 32 pairs of core (0 to 15) and slot length (1 to 128), a byte each, body length odd, 3 to 65. The period
+/// is the sum, at most 256, and the analysed core has at least one pair." "A bus duration may not exceed the longest such stretch, nor
+/// the period".
+pub fn limits_of_schedules(cases: &mut Cases) {
+    let mut add = |image: Vec<u8>, expected: Expected| cases.add("limits of schedules", image, expected);
+    let with = |field_1: &[u8]| [field_1.to_vec(), starts(&[0]), plain(1, 1)].concat();
+    // accepted, or refused with this number at this place
+    let at = |good: bool, number: u64, place: usize| if good { Accepted } else { line(&format!("refused {number} {place}")) };
+
+    // lengths with a body of that many bytes, all pairs of core 0 and length 1; and with none
+    for length in (0..=70).chain([127, 128, 129, 255, 256, 257, 258, 259, 321, 323, 513, 515, 4_097]) {
+        let body: Vec<u8> = (0..length).map(|place| u8::from(place > 0 && place % 2 == 0)).collect();
+        let good = (3..=65).contains(&length) && length % 2 == 1;
+        add(with(&field(9, &body)), at(good, 4, 0));
+        add(field(9, &body)[..3].to_vec(), line(if good { "refused 1 0" } else { "refused 4 0" }));
+    }
+    add(vec![9, 255, 255], line("refused 4 0"));
+
+    // every pair's core and length, in its place, beside pairs that are good; and with that core as the analysed one
+    for which in 0..3 {
+        for core in [0, 1, 3, 4, 14, 15, 16, 17, 20, 31, 32, 127, 128, 132, 144, 255] {
+            let mut pairs = [(4, 2), (4, 3), (4, 1)];
+            pairs[which].0 = core;
+            add(with(&schedule(4, &pairs)), at(core <= 15, 5, 0));
+            add(with(&schedule(core, &pairs)), at(core <= 15, 5, 0));
+        }
+        for length in [0, 1, 2, 63, 64, 65, 126, 127, 128, 129, 130, 192, 254, 255] {
+            for core in [0, 1] {
+                let mut pairs = [(0, 1), (1, 1), (0, 1)];
+                pairs[which] = (core, length);
+                add(with(&schedule(0, &pairs)), at((1..=128).contains(&length), 5, 0));
+            }
+        }
+    }
+    for (core, length) in [(0, 0), (0, 1), (0, 128), (0, 129), (0, 255), (15, 1), (16, 1), (255, 1)] {
+        add(with(&schedule(core, &[(core, length)])), at(core <= 15 && (1..=128).contains(&length), 5, 0));
+    }
+    // sums, and what a byte would make of them
+    let eights = |last: u8| [vec![8; 31], vec![last]].concat();
+    for (lengths, good) in [
+        (vec![128, 128], true),
+        (vec![128, 127, 1], true),
+        (vec![127, 128, 2], false),
+        (vec![128, 128, 1], false),
+        (vec![1, 128, 128], false),
+        (vec![128, 128, 128], false),
+        (vec![128; 4], false),
+        (vec![128, 128, 128, 128, 1], false),
+        (vec![128; 32], false),
+        (vec![16; 32], false),
+        (vec![16; 16], true),
+        (vec![1; 32], true),
+        (eights(7), true),
+        (eights(8), true),
+        (eights(9), false),
+        (eights(128), false),
+    ] {
+        for cores in [1, 2, 16] {
+            let pairs: Vec<(u8, u8)> = (0..).zip(&lengths).map(|(own, &length)| (own % cores, length)).collect();
+            for core in 0..cores.min(lengths.len() as u8).min(3) {
+                add(with(&schedule(core, &pairs)), at(good, 5, 0));
+            }
+        }
+    }
+    // "the analysed core has at least one pair"
+    for core in (0..=33).chain([64, 127, 128, 130, 255]) {
+        add(with(&schedule(core, &[(0, 2), (2, 3)])), at(core == 0 || core == 2, 5, 0));
+        add(with(&schedule(core, &[(15, 4)])), at(core == 15, 5, 0));
+        // nor is a pair's length a core
+        add(with(&schedule(core, &[(1, 5), (3, 7), (1, 16)])), at(core == 1 || core == 3, 5, 0));
+    }
+
+    // "each below P", and field 2 "stands behind field 1, wherever that ends"
+    let all: Vec<u8> = (0..=255).collect();
+    for pairs in [
+        vec![(0, 1)],
+        vec![(0, 1), (1, 1)],
+        vec![(0, 3), (1, 2), (0, 2), (1, 3)],
+        vec![(0, 126), (1, 1)],
+        vec![(0, 128)],
+        vec![(0, 100), (1, 29)],
+        vec![(0, 128), (1, 127)],
+        vec![(0, 128), (1, 128)],
+        vec![(0, 8); 32],
+    ] {
+        let period: usize = pairs.iter().map(|&(_, length)| usize::from(length)).sum();
+        let field_1 = schedule(0, &pairs);
+        let from = |starts: Vec<u8>| [field_1.clone(), starts, bus_block(1, 1, 1)].concat();
+        let place = field_1.len();
+        add(from(starts(&all[..period])), Accepted);
+        add(from(starts(&all[period - 1..period])), Accepted);
+        if period < 256 {
+            add(from(starts(&all[..period + 1])), at(false, 5, place));
+            add(from(starts(&all[period..period + 1])), at(false, 5, place));
+            add(from(starts(&[255])), at(false, 5, place));
+        }
+        add(from(starts(&[0, 0])), at(false, 5, place));
+        add(from(starts(&[])), at(false, 4, place));
+        add([field_1.clone(), starts(&[0]), plain(1, 0)].concat(), at(false, 5, place + 4));
+        add([field_1.clone(), starts(&[0]), sequence(&[0])].concat(), at(false, 6, place + 4));
+        add([field_1, starts(&[0, 1])[..4].to_vec()].concat(), at(false, 1, place));
+    }
+
+    // durations on both sides of the longest stretch, also in a block that is not reached
+    for (field_1, longest) in [
+        (two_slots(0), 3),
+        (two_slots(1), 3),
+        (schedule(0, &[(0, 2), (1, 5), (0, 3)]), 5),
+        (schedule(3, &[(1, 2), (3, 1), (3, 1), (3, 2), (1, 4)]), 4),
+        (schedule(2, &[(2, 1), (2, 1), (0, 4), (2, 1), (2, 3)]), 6),
+        (schedule(0, &[(0, 1), (1, 1), (0, 4), (1, 4)]), 4),
+        (schedule(0, &[(0, 1), (1, 1), (0, 1), (1, 1)]), 1),
+        // not the sum of the core's slots
+        (schedule(0, &[(0, 6), (1, 1), (0, 5), (1, 1)]), 6),
+        (schedule(1, &[(0, 100), (1, 60), (1, 60), (0, 20)]), 120),
+        (schedule(0, &[(0, 128), (1, 128)]), 128),
+        (schedule(0, &[(0, 127), (1, 2), (0, 127)]), 254),
+        (schedule(0, &[(0, 127), (1, 1), (0, 128)]), 255),
+        // every cycle is the core's
+        (schedule(0, &[(0, 1)]), 1),
+        (schedule(7, &[(7, 5)]), 5),
+        (schedule(7, &[(7, 2), (7, 3)]), 5),
+        (schedule(7, &[(7, 1); 32]), 32),
+        (schedule(0, &[(0, 128)]), 128),
+        (schedule(0, &[(0, 127), (0, 127)]), 254),
+        (schedule(0, &[(0, 127), (0, 128)]), 255),
+        (schedule(0, &[(0, 128), (0, 128)]), 255),
+    ] {
+        let above = if longest == 255 { 255 } else { longest + 1 };
+        for (lowest, highest) in [(0, 1), (1, longest), (longest, longest), (1, above), (above, above), (1, 255), (longest, 1)] {
+            let good = 1 <= lowest && lowest <= highest && highest <= longest;
+            for block in [bus_block(1, lowest, highest), bus_block(2, lowest, highest), fetch(1, lowest, highest, 2)] {
+                let place = field_1.len() + 4;
+                let image = [field_1.clone(), starts(&[0]), block].concat();
+                add(image.clone(), at(good, 5, place));
+                if highest == longest || highest == above {
+                    add([image, plain(1, 1)].concat(), at(good, 5, place));
+                }
+            }
+        }
+    }
+
+    // "may stand first in place of tag 1": nowhere else, and nothing else there
+    let (two, small) = (two_slots(0), small_bus());
+    let (begun, node) = ([two.clone(), starts(&[0])].concat(), plain(1, 1));
+    for later in
+        [two.clone(), schedule(0, &[(0, 1)]), small.clone(), starts(&[0]), field(9, &[]), field(1, &[]), vec![9, 255, 255]]
+    {
+        let twice = later != starts(&[0]);
+        for first in [&two, &small] {
+            if twice {
+                add([first.clone(), later.clone(), starts(&[0]), node.clone()].concat(), at(false, 2, first.len()));
+            }
+            let begun = [first.clone(), starts(&[0])].concat();
+            add([begun.clone(), later.clone()].concat(), at(false, 2, begun.len()));
+            add([begun.clone(), node.clone(), later.clone()].concat(), at(false, 2, begun.len() + 7));
+            add([begun.clone(), blank_nodes(256), later.clone()].concat(), at(false, 2, begun.len() + 256 * 7));
+        }
+    }
+    add([two.clone(), node.clone()].concat(), at(false, 2, two.len()));
+    add([starts(&[0]), two.clone(), node.clone()].concat(), at(false, 2, 0));
+    for tag in (0..=30).chain([73, 128, 137, 201, 255]) {
+        let mut image = [begun.clone(), node.clone()].concat();
+        image[0] = tag;
+        add(
+            image,
+            match tag {
+                9 => Accepted,
+                1 => at(false, 4, 0),
+                _ => at(false, 2, 0),
+            },
+        );
+    }
+
+    // cuts in the longest field 1; then it stands alone, and with its starts
+    let longest = longest_schedule();
+    let bad = schedule(16, &[(16, 129); 32]);
+    for length in 1..longest.len() {
+        add(longest[..length].to_vec(), at(false, 1, 0));
+        add(bad[..length].to_vec(), at(false, 1, 0));
+    }
+    for field_1 in [longest, two.clone(), schedule(0, &[(0, 1)])] {
+        add(field_1.clone(), at(false, 7, field_1.len()));
+        add([field_1.clone(), starts(&[0])].concat(), at(false, 7, field_1.len() + 4));
+        add([field_1.clone(), vec![2]].concat(), at(false, 1, field_1.len()));
+        add([field_1.clone(), starts(&[0]), vec![3, 0]].concat(), at(false, 1, field_1.len() + 4));
+    }
+    // what is wrong in it goes before all that follows
+    for later in [Vec::new(), vec![2], starts(&[255]), field(11, &[]), starts(&[]), plain(1, 1), with(&two)] {
+        add([bad.clone(), later.clone()].concat(), at(false, 5, 0));
+        add([schedule(1, &[(0, 128), (1, 128), (0, 1)]), later.clone()].concat(), at(false, 5, 0));
+        add([schedule(1, &[(0, 128)]), later.clone()].concat(), at(false, 5, 0));
+        add([field(9, &[0, 0, 1, 0]), later].concat(), at(false, 4, 0));
+    }
+    // 8, 9 and 3 behind it
+    let over = |levels: u16, level: &dyn Fn(u16) -> Vec<u8>| [begun.clone(), tower(a2(), levels, level).concat()].concat();
+    for levels in [15, 16, 23, 24] {
+        let image = over(levels, &|below| sequence(&[below]));
+        add(image.clone(), at(levels <= 23, 8, image.len()));
+        let image = over(levels, &|below| branch(&[below, below]));
+        add(image.clone(), at(levels <= 15, if levels <= 23 { 9 } else { 8 }, image.len()));
+    }
+    for number in [256, 257] {
+        add([begun.clone(), blank_nodes(number)].concat(), at(number <= 256, 3, begun.len() + 256 * 7));
+    }
+}
+
 /// "18 lines, period × 2 to the number of lines exceeds 1,024, judged after 9 and before 10, with the image's length as place"
 pub fn number_of_lines(cases: &mut Cases) {
     let mut add = |image: Vec<u8>, expected: Expected| cases.add("number of lines", image, expected);
     // cores and slot, and the number of lines that is still accepted
-    for (cores, slot, most) in [
+    let equal = [
         (16, 16, 2),
         (2, 128, 2),
         // 255, 254, 240, 130, 129
@@ -442,8 +798,23 @@ pub fn number_of_lines(cases: &mut Cases) {
         (3, 21, 4),
         (2, 16, 4),
         (2, 1, 4),
-    ] {
-        let opening = [bus(cores, slot, 1), starts(&[0])].concat();
+    ];
+    // pairs with tag 9: 256, 255, 129, 128, 65, 64, 10, 1
+    let unequal = [
+        (vec![(1, 128), (1, 128)], 2),
+        (vec![(1, 8); 32], 2),
+        (vec![(0, 127), (1, 1), (0, 127)], 2),
+        (vec![(1, 2), (0, 100), (1, 27)], 2),
+        (vec![(0, 60), (1, 8), (5, 60)], 3),
+        (vec![(1, 30), (1, 30), (0, 5)], 3),
+        (vec![(1, 31), (0, 33)], 4),
+        (vec![(0, 3), (1, 2), (0, 2), (1, 3)], 4),
+        (vec![(1, 1)], 4),
+    ];
+    let with_1 = equal.into_iter().map(|(cores, slot, most)| (bus(cores, slot, 1), most));
+    let with_9 = unequal.into_iter().map(|(pairs, most)| (schedule(1, &pairs), most));
+    for (field_1, most) in with_1.chain(with_9) {
+        let opening = [field_1, starts(&[0])].concat();
         for number in 0..4u8 {
             let block = || fetch(number, 1, 1, 2);
             let lower = || fetch(0, 1, 1, 3);
@@ -700,7 +1071,7 @@ pub fn order(cases: &mut Cases) {
     // in a loop 5 before 6; an earlier field's 6 before a later field's 1, 2, 4 and 5
     add(looped(2, 1, own), 5);
     add(looped(0, 10_001, 65_535), 5);
-    for later in [vec![3], field(9, &[]), field(3, &[0]), plain(1, 0)] {
+    for later in [vec![3], field(9, &[]), two_slots(0), field(3, &[0]), plain(1, 0)] {
         add([sequence(&[own]), later.clone()].concat(), 6);
         add([branch(&[0, own]), later.clone()].concat(), 6);
         add([looped(1, 1, own), later].concat(), 6);
@@ -748,6 +1119,7 @@ fn bodies(tag: u8) -> Vec<Vec<u8>> {
         5 => vec![vec![0, 0], vec![1, 0], vec![0, 0, 255, 255]],
         6 => vec![vec![0, 0, 0, 0], vec![0, 0, 1, 0], vec![255, 255, 0, 0]],
         7 => vec![vec![0, 0, 0, 2, 0, 0], vec![0, 3, 0, 2, 0, 0], vec![0, 0, 0, 2, 1, 0], vec![0, 3, 0, 2, 1, 0]],
+        9 => vec![vec![0, 0, 5, 1, 5], vec![0, 16, 5], vec![1, 0, 5], vec![0, 0, 129], vec![0, 0, 128, 1, 128, 0, 1]],
         10 => vec![vec![0, 1, 5, 0, 1], vec![3, 5, 5, 255, 255], vec![4, 1, 5, 0, 1], vec![0, 0, 5, 0, 1], vec![0, 1, 6, 0, 1]],
         _ => vec![vec![0, 0, 0, 0]],
     }
@@ -758,11 +1130,17 @@ pub fn longest_block() -> Vec<u8> {
     fetch(1, 1, 3, 7)
 }
 
-/// All 256 starts, a block, 255 sequences of 16 children, the last of this child. "document 01's longest valid image" has grown to 9,198
-/// bytes, with the longest block; with a plain block it has 9,197.
-pub fn longest_image(block: Vec<u8>, child: u16) -> Vec<u8> {
+/// The longest field 1, of 68 bytes: 32 pairs, two slots for each core, of 12 and of 4 cycles, and a period of 256.
+pub fn longest_schedule() -> Vec<u8> {
+    let pairs: Vec<(u8, u8)> = (0..32).map(|own| (own % 16, if own < 16 { 12 } else { 4 })).collect();
+    schedule(5, &pairs)
+}
+
+/// A bus with a period of 256, all starts, a block, 255 sequences of 16 children, the last of this child. "document 01's longest valid
+/// image" has grown to 9,260 bytes, with the longest field 1 and the longest block; with tag 1 it has 9,198, with a plain block one less.
+pub fn longest_image(field_1: Vec<u8>, block: Vec<u8>, child: u16) -> Vec<u8> {
     let all: Vec<u8> = (0..=255).collect();
-    let mut image = [bus(16, 16, 5), starts(&all), block].concat();
+    let mut image = [field_1, starts(&all), block].concat();
     for own in 1..256 {
         image.extend(sequence(&[if own == 255 { child } else { 0 }; 16]));
     }
@@ -771,15 +1149,18 @@ pub fn longest_image(block: Vec<u8>, child: u16) -> Vec<u8> {
 
 /// Inputs up to and beyond what a valid image can be long.
 pub fn sizes(cases: &mut Cases) {
-    for (block, child, length) in [
-        (longest_block(), 0, 9_198),
-        (longest_block(), 1, 9_198),
-        (longest_block(), 254, 9_198),
-        (fetch(0, 16, 16, 65_535), 254, 9_198),
-        (plain(1, 3), 254, 9_197),
-        (bus_block(2, 1, 3), 254, 9_196),
+    let (with_1, with_9) = (|| bus(16, 16, 5), longest_schedule);
+    for (field_1, block, child, length) in [
+        (with_9(), longest_block(), 0, 9_260),
+        (with_9(), longest_block(), 254, 9_260),
+        (with_9(), fetch(0, 12, 12, 65_535), 1, 9_260),
+        (with_9(), plain(1, 3), 254, 9_259),
+        (with_9(), bus_block(2, 1, 3), 254, 9_258),
+        (with_1(), longest_block(), 254, 9_198),
+        (with_1(), fetch(0, 16, 16, 65_535), 1, 9_198),
+        (with_1(), plain(1, 3), 254, 9_197),
     ] {
-        let longest = longest_image(block, child);
+        let longest = longest_image(field_1, block, child);
         assert!(longest.len() == length, "the longest valid image");
         cases.add("sizes", longest.clone(), Accepted);
         for tag in [0u8, 3, 5, 8, 10] {
@@ -812,18 +1193,24 @@ pub fn sizes(cases: &mut Cases) {
     }
     // a third line is too many for the period, and the longest image has room for its number
     for line_number in [2, 3] {
-        cases.add("sizes", longest_image(fetch(line_number, 1, 3, 7), 254), line("refused 18 9198"));
+        let block = || fetch(line_number, 1, 3, 7);
+        cases.add("sizes", longest_image(with_1(), block(), 254), line("refused 18 9198"));
+        cases.add("sizes", longest_image(with_9(), block(), 254), line("refused 18 9260"));
     }
+    // with one pair more field 1 has a wrong length
+    let pairs: Vec<(u8, u8)> = (0..33).map(|own| (own % 16, 7)).collect();
+    cases.add("sizes", longest_image(schedule(5, &pairs), longest_block(), 254), line("refused 4 0"));
     // a bus field and nothing but junk; long inputs refused early
-    for size in [9_197, 9_198, 9_200, 16_384, 16_385, 20_000] {
-        for byte in [0u8, 1, 3, 255] {
+    for size in [9_197, 9_198, 9_200, 9_260, 9_262, 16_384, 16_385, 20_000] {
+        for byte in [0u8, 1, 3, 9, 255] {
             cases.add("sizes", vec![byte; size], Open);
             let mut image = small_bus();
             image.resize(size, byte);
             cases.add("sizes", image, Open);
-            let mut image = with_a_node();
-            image.resize(size, byte);
-            cases.add("sizes", image, Open);
+            for mut image in [two_slots(0), with_a_node()] {
+                image.resize(size, byte);
+                cases.add("sizes", image, Open);
+            }
         }
         // plain blocks to the end: the 257th is one too many
         let mut image = [small_bus(), starts(&[0])].concat();

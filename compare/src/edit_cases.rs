@@ -1,9 +1,11 @@
 //! Edits written by hand, with what has to be answered: change request W10, sentence by sentence.
 
-use crate::cases::{longest_block, longest_image};
+use crate::cases::{longest_block, longest_image, longest_schedule, two_slots};
 use crate::edit_generate::{Edits, Expected};
 use crate::editing::{is_plain, refused_line, Edit};
-use crate::generate::{blank_nodes, branch, bus, bus_block, fetch, field, hexadecimal, looped, plain, sequence, starts, Random};
+use crate::generate::{
+    blank_nodes, branch, bus, bus_block, fetch, field, hexadecimal, looped, plain, schedule, sequence, starts, Random,
+};
 use crate::image::judge;
 use Expected::{Begins, Line, Open};
 
@@ -17,6 +19,10 @@ fn edit(image: &[u8], node: u64, (lowest, highest): (u64, u64), places: u64) -> 
 
 /// An image with nodes of every kind: blocks in a sequence, in a branch, in a loop, shared, and one that is not reached.
 fn every_kind() -> Vec<u8> {
+    every_kind_on(bus(2, 5, 0))
+}
+
+fn every_kind_on(field_1: Vec<u8>) -> Vec<u8> {
     let nodes = [
         plain(1, 2),
         bus_block(2, 2, 2),
@@ -28,7 +34,7 @@ fn every_kind() -> Vec<u8> {
         fetch(0, 2, 2, 1),
         sequence(&[7, 5, 7, 2]),
     ];
-    [bus(2, 5, 0), starts(&[3, 5]), nodes.concat()].concat()
+    [field_1, starts(&[3, 5]), nodes.concat()].concat()
 }
 
 /// Edits that lead to the worked tasks of document 01, or whose figures follow at once.
@@ -44,7 +50,7 @@ pub fn worked(edits: &mut Edits) {
             let short = format!("{line}1 10 {}", image.len());
             line += &format!("0 {tight} {published} {}", exits.len());
             exits.iter().for_each(|(offset, time)| line += &format!(" {offset}:{time}"));
-            let period = u64::from(opening[3]) * u64::from(opening[4]);
+            let period = judge(&image).expect("an image that is accepted").bus.period();
             for places in [0, 1, period - 1, period, period + 1, 256, 300] {
                 let expected = if places < period { &short } else { &line };
                 let durations = (u64::from(durations.0), u64::from(durations.1));
@@ -82,6 +88,24 @@ pub fn worked(edits: &mut Edits) {
     done((small(), &[0]), &around(1), 1, (3, 3), (6, 13, &[(6, 6)]));
     let before = [plain(1, 1), fetch(0, 2, 2, 1), sequence(&[0, 1, 1])];
     done((small(), &[0]), &before, 0, (4, 4), (13, 19, &[(3, 13)]));
+    // slots of unequal length: core 0 owns 0 to 2, and 5 and 6 of ten. A2 and then 1 cycle, from {5, 6}, as in the worked schedules, with
+    // a block of no cycles between, from one of 1; 4 cycles, and an access of 3 that passes a short stretch over: 3 after 4 + 6 + 3; 0 or
+    // 1 cycle before it: 3 after 3 and after 1 + 9 + 3
+    let between = [bus_block(2, 2, 2), plain(1, 1), bus_block(2, 1, 1), sequence(&[0, 1, 2])];
+    done((two_slots(0), &[5, 6]), &between, 1, (0, 0), (7, 10, &[(1, 6), (3, 7)]));
+    let three = [plain(1, 1), bus_block(2, 3, 3), sequence(&[0, 1])];
+    done((two_slots(0), &[0]), &three, 0, (4, 4), (13, 13, &[(3, 13)]));
+    done((two_slots(0), &[0]), &three, 0, (0, 1), (13, 13, &[(3, 13)]));
+    // fetched once, 2 cycles and a hit of 1, twice from {6} with 3 cycles between: 2 after 6, 5 after 9, 6 after 10. Published: 6, ends
+    // at {2, 7}; 3; from {5, 0} an access of 2 without a wait.
+    done((two_slots(0), &[6]), &around(1), 1, (3, 3), (10, 11, &[(6, 10)]));
+    // round the period: from 9 on core 0 owns 3 cycles
+    let round = schedule(0, &[(0, 2), (1, 5), (0, 3)]);
+    done((round, &[5]), &three, 0, (4, 4), (7, 7, &[(2, 7)]));
+    // a lone core: P = 1, and P = 256, where 2 cycles and 255 lead from 255 to 0
+    done((schedule(0, &[(0, 1)]), &[0]), &[plain(5, 5)], 0, (0, 63), (63, 63, &[(0, 63)]));
+    let lone = [plain(1, 1), bus_block(2, 255, 255), sequence(&[0, 1])];
+    done((schedule(3, &[(3, 128), (3, 128)]), &[255]), &lone, 0, (2, 2), (257, 257, &[(0, 257)]));
     // a block in a loop, which counts each time; in one that may not execute it; in one that does not
     done((small(), &[0]), &[plain(1, 1), looped(1, 3, 0)], 0, (3, 3), (9, 9, &[(3, 3), (6, 6), (9, 9)]));
     done((small(), &[0]), &[plain(1, 1), looped(0, 1, 0)], 0, (3, 3), (3, 3, &[(0, 0), (3, 3)]));
@@ -134,6 +158,9 @@ pub fn grid(edits: &mut Edits) {
         [bus(2, 5, 1), starts(&[0]), bus_block(2, 1, 4), sequence(&[0, 0])].concat(),
         [bus(2, 128, 0), starts(&[0]), plain(1, 1), plain(1, 1), plain(1, 1), sequence(&[2, 0, 2])].concat(),
         [bus(4, 16, 3), starts(&[5, 63]), fetch(3, 1, 2, 9), plain(1, 1), fetch(0, 3, 3, 1), sequence(&[0, 1, 2, 0])].concat(),
+        [two_slots(1), starts(&[3, 9]), fetch(3, 1, 3, 9), bus_block(1, 3, 3), plain(1, 1), sequence(&[0, 2, 1, 0])].concat(),
+        [schedule(0, &[(0, 1)]), starts(&[0]), plain(1, 1), bus_block(2, 1, 1), branch(&[0, 1])].concat(),
+        [longest_schedule(), starts(&all), plain(3, 3), bus_block(2, 12, 12)].concat(),
     ];
     for image in &images {
         let task = judge(image).expect("an image that is accepted");
@@ -196,6 +223,19 @@ fn broken() -> Vec<(u64, Vec<u8>)> {
         (18, [bus(2, 128, 1), starts(&[0]), plain(1, 1), fetch(3, 1, 1, 1), sequence(&[1, 0])].concat()),
         (18, [bus(5, 13, 2), starts(&[0]), plain(1, 1), fetch(3, 1, 1, 1), plain(1, 1)].concat()),
         (18, [bus(2, 64, 0), starts(&[0]), plain(1, 1), plain(2, 2), fetch(3, 1, 1, 1), sequence(&[2, 0, 1])].concat()),
+        // with tag 9: a field 1 that is cut, stands behind another, has a wrong length, core, slot or sum, or no slot for the analysed
+        // core; a duration above the longest stretch; no node; a period of 65 and four lines
+        (1, two_slots(0)[..11].to_vec()),
+        (2, with(two_slots(0))),
+        (2, [two_slots(0), two_slots(1), plain(1, 1)].concat()),
+        (4, [field(9, &[0, 0, 5, 1]), starts(&[0]), plain(1, 1)].concat()),
+        (5, every_kind_on(schedule(0, &[(0, 5), (16, 5)]))),
+        (5, every_kind_on(schedule(0, &[(0, 5), (1, 129)]))),
+        (5, every_kind_on(schedule(0, &[(0, 128), (1, 128), (0, 1)]))),
+        (5, every_kind_on(schedule(2, &[(0, 5), (1, 5)]))),
+        (5, every_kind_on(schedule(0, &[(0, 1), (1, 5), (0, 1), (1, 3)]))),
+        (7, two_slots(0)),
+        (18, [schedule(0, &[(0, 60), (1, 5)]), starts(&[0]), plain(1, 1), fetch(3, 1, 1, 1), sequence(&[1, 0])].concat()),
     ]
 }
 
@@ -212,26 +252,29 @@ pub fn order(edits: &mut Edits) {
             }
         }
     }
-    let image = every_kind();
-    let length = image.len() as u64;
-    // where the fields of the plain blocks stand: the first at 11, the second after 7 and 6 bytes more, the third after 7, 9, 7 and 9
-    for (node, place) in [(0, 11), (2, 24), (6, 56)] {
-        for places in [0, 9, 10, 300] {
-            for durations in bad {
-                edits.add("order of refusals", edit(&image, node, durations, places), Line(refused_line(&image, 5, place)));
+    // where the fields of the plain blocks stand: the first at 11, the second after 7 and 6 bytes more, the third after 7, 9, 7 and 9;
+    // behind a field 1 of 12 bytes all 6 bytes further on
+    for (image, further) in [(every_kind(), 0), (every_kind_on(two_slots(0)), 6)] {
+        let length = image.len() as u64;
+        for (node, place) in [(0, 11 + further), (2, 24 + further), (6, 56 + further)] {
+            for places in [0, 9, 10, 300] {
+                for durations in bad {
+                    edits.add("order of refusals", edit(&image, node, durations, places), Line(refused_line(&image, 5, place)));
+                }
             }
         }
-    }
-    for node in [1, 3, 4, 5, 7, 8].into_iter().chain(absent) {
-        for places in [0, 9, 10, 300] {
-            for durations in bad.into_iter().chain([(1, 2)]) {
-                edits.add("order of refusals", edit(&image, node, durations, places), Line(refused_line(&image, 19, length)));
+        for node in [1, 3, 4, 5, 7, 8].into_iter().chain(absent) {
+            for places in [0, 9, 10, 300] {
+                for durations in bad.into_iter().chain([(1, 2)]) {
+                    edits.add("order of refusals", edit(&image, node, durations, places), Line(refused_line(&image, 19, length)));
+                }
             }
         }
     }
 }
 
-/// Images of 256 nodes, and the longest that are accepted: with a block of tag 10, 9,198 bytes, and with a plain one, 9,197.
+/// Images of 256 nodes, and the longest that are accepted: with tag 9 and a block of tag 10, 9,260 bytes, and with a plain one, 9,259;
+/// with tag 1 9,198 and 9,197.
 pub fn largest(edits: &mut Edits, random: &mut Random) {
     let opening = [bus(3, 4, 1), starts(&[0, 11])].concat();
     let blocks: Vec<u8> = (0..255).flat_map(|own| plain(own, own + own % 5)).collect();
@@ -266,16 +309,21 @@ pub fn largest(edits: &mut Edits, random: &mut Random) {
             edits.add("256 nodes", edit(image, node, (3, 2), 0), Line(refused_line(image, 5, place)));
         }
     }
-    for block in [plain(1, 3), longest_block()] {
+    for (field_1, block) in [
+        (longest_schedule(), plain(1, 3)),
+        (longest_schedule(), longest_block()),
+        (bus(16, 16, 5), plain(1, 3)),
+        (bus(16, 16, 5), longest_block()),
+    ] {
         let is_plain = block == plain(1, 3);
-        let longest = longest_image(block, 254);
+        let longest = longest_image(field_1, block, 254);
         let length = longest.len() as u64;
         let cut = longest[..longest.len() - 1].to_vec();
         let more = [longest.clone(), plain(1, 1)].concat();
         for node in [0, 1, 254, 255, 256, LARGEST] {
             for durations in [(0, 0), (1, 3), (0, 63), (65_535, 65_535), (0, 64)] {
                 for places in [255, 256] {
-                    let expected = if is_plain { Open } else { Line(refused_line(&longest, 19, 9_198)) };
+                    let expected = if is_plain { Open } else { Line(refused_line(&longest, 19, length)) };
                     edits.add("longest image", edit(&longest, node, durations, places), expected);
                 }
             }

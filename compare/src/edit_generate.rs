@@ -3,9 +3,8 @@
 
 use crate::edit_cases;
 use crate::editing::{edited, in_range, is_plain, Edit};
-use crate::generate::{self, valid_task, work, Random, MIDDLE, MOST_WORK, SMALL};
-use crate::image::{judge, Node, Task};
-use crate::reference::MOST_BYTES;
+use crate::generate::{self, longest_duration, valid_task, work, Random, MIDDLE, MOST_WORK, SMALL};
+use crate::image::{judge, Node, Task, MOST_BYTES};
 use std::collections::HashSet;
 
 /// What is known of an edit's line before the second reading gives its own.
@@ -64,7 +63,7 @@ fn random_node(random: &mut Random, task: &Task) -> u64 {
 fn random_durations(random: &mut Random, task: &Task, node: u64) -> (u64, u64) {
     let lowest = match random.below(8) {
         0 => 0,
-        1..=4 => random.below(2 * task.bus.slot + 2),
+        1..=4 => random.below(2 * longest_duration(&task.bus) + 2),
         5 => random.below(3 * task.bus.period()),
         6 => random.below(65_536),
         _ => *random.one_of(&[1, 255, 256, 65_472, 65_535]),

@@ -42,6 +42,8 @@ pub enum Found {
 pub struct Answer {
     pub line: String,
     pub found: Found,
+    /// what the figures are of
+    pub task: Option<Task>,
     /// those of the figures
     pub lines: Lines,
     /// where this reading disagrees with itself
@@ -52,7 +54,7 @@ pub fn answer(edit: &Edit, steps: u64) -> Answer {
     let length = edit.image.len() as u64;
     let refused = |found, number, place| {
         let line = refused_line(&edit.image, number, place);
-        Answer { line, found, lines: Lines::None, doubt: None }
+        Answer { line, found, task: None, lines: Lines::None, doubt: None }
     };
     // "Unaccepted images are refused first, by their own numbers"
     let task = match judge(&edit.image) {
@@ -85,12 +87,13 @@ pub fn answer(edit: &Edit, steps: u64) -> Answer {
     // "10 is judged last in the preview"
     if edit.places < edited_task.bus.period() {
         let line = format!("edit 0 0 0 {}; preview 1 10 {length}", bytes(&edited));
-        return Answer { line, found: Found::Table, lines: Lines::None, doubt };
+        return Answer { line, found: Found::Table, task: None, lines: Lines::None, doubt };
     }
     // "what the edit on a copy and a fresh calculation would give"
     let figures = figures(&edited_task, steps);
     let found = figures.runs.map_or(Found::Calculated, Found::Enumerated);
-    Answer { line: done_line(&edited, &figures), found, lines: figures.lines, doubt: doubt.or(figures.doubt) }
+    let line = done_line(&edited, &figures);
+    Answer { line, found, task: Some(edited_task), lines: figures.lines, doubt: doubt.or(figures.doubt) }
 }
 
 /// The image after the edit, if both durations can be written; and the place of the block's field.

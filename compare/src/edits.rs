@@ -24,7 +24,7 @@ mod runs;
 
 use edit_generate::{Case, Expected};
 use editing::Found;
-use reference::Lines;
+use reference::{Lines, Unequal};
 use report::{Options, Tests};
 use std::collections::BTreeMap;
 use std::sync::Mutex;
@@ -54,6 +54,9 @@ struct Summary {
     /// figures of images with lines, and those of them whose published exit set has offsets at which no run ends
     with_lines: usize,
     wider: usize,
+    /// edits of images with tag 9, and figures of such
+    with_pairs: usize,
+    unequal: Unequal,
 }
 
 /// Compares the program's line for an edit.
@@ -70,6 +73,8 @@ fn perform(number: usize, case: &Case, line: &str, summary: &Mutex<Summary>) {
     summary.tests.tell(number, case.category, failed);
     summary.with_lines += usize::from(answer.lines != Lines::None);
     summary.wider += usize::from(answer.lines == Lines::Wider);
+    summary.with_pairs += usize::from(case.edit.image.first() == Some(&9));
+    answer.task.iter().for_each(|task| summary.unequal.count(task));
     match answer.found {
         Found::Own(number) => *summary.own.entry(number).or_default() += 1,
         Found::Block { fetched } => {
@@ -88,7 +93,7 @@ fn perform(number: usize, case: &Case, line: &str, summary: &Mutex<Summary>) {
 
 fn main() {
     let threads = std::thread::available_parallelism().map_or(2, |number| number.get()).min(8) as u64;
-    let numbers = [("--seed", 1), ("--images", 17_500), ("--threads", threads), ("--stop-after", u64::MAX)];
+    let numbers = [("--seed", 1), ("--images", 22_000), ("--threads", threads), ("--stop-after", u64::MAX)];
     let options = Options::new(&numbers, "target/compare/edits-linked");
     let (seed, threads) = (options.number("--seed"), options.size("--threads").max(1));
     let begun = Instant::now();
@@ -121,10 +126,12 @@ fn main() {
         summary.table, summary.enumerated, summary.runs, summary.calculated
     );
     println!("figures with lines: {}, of them with published exits at which no run ends: {}", summary.with_lines, summary.wider);
+    println!("edits of images with tag 9: {}; figures with tag 9: {}", summary.with_pairs, summary.unequal);
     // every answer of the papers was met, and runs were enumerated
     let each_refusal = (1..=9).chain([18]).all(|number| summary.own.get(&number).copied().unwrap_or(0) >= 10);
     let edits = summary.block.min(summary.durations).min(summary.table) >= 500;
     let lines = summary.fetched.min(summary.with_lines).min(summary.wider) >= 200;
-    let met = each_refusal && edits && lines && summary.enumerated >= 2_000 && summary.calculated >= 100;
+    let schedules = summary.with_pairs >= 5_000 && summary.unequal.all >= 1_000 && summary.unequal.met(50);
+    let met = each_refusal && edits && lines && schedules && summary.enumerated >= 2_000 && summary.calculated >= 100;
     summary.tests.close(all.len() + batches.len(), &[(met, "too few edits of some kind")], LEAST_PASSED);
 }

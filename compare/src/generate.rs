@@ -1,7 +1,7 @@
 //! Builds images: the fields, random tasks, and damage done to valid images. Everything follows from the seed.
 
 use crate::cases;
-use crate::image::{judge, Node, Task};
+use crate::image::{bus_of, judge, Bus, Node, Refusal, Task, MOST_BYTES};
 use std::collections::HashSet;
 
 /// What is known of an image's answer before the reference gives its own.
@@ -17,6 +17,8 @@ pub struct Case {
     pub category: &'static str,
     pub image: Vec<u8>,
     pub expected: Expected,
+    /// the number of the image that says the same with tag 1, where this one is made of it
+    pub same_as: Option<usize>,
 }
 
 /// The images, each once.
@@ -29,8 +31,21 @@ pub struct Cases {
 impl Cases {
     pub fn add(&mut self, category: &'static str, image: Vec<u8>, expected: Expected) {
         if self.seen.insert(image.clone()) {
-            self.list.push(Case { category, image, expected });
+            self.list.push(Case { category, image, expected, same_as: None });
         }
+    }
+
+    /// Adds the image of this number with its equal schedule written the other way, where that can be done and both are read whole.
+    fn add_other_way(&mut self, number: usize) {
+        let case = &self.list[number];
+        let Some(image) = with_pairs(&case.image).filter(|image| image.len() <= MOST_BYTES) else { return };
+        let expected = match &case.expected {
+            Expected::Text(text) => Expected::Text(moved(text, image.len() - case.image.len())),
+            expected => expected.clone(),
+        };
+        let all = self.list.len();
+        self.add("written either way", image, expected);
+        self.list[all..].iter_mut().for_each(|added| added.same_as = Some(number));
     }
 
     /// Leaves out images that take long to calculate.
@@ -104,6 +119,17 @@ pub fn bus(cores: u8, slot: u8, core: u8) -> Vec<u8> {
     field(1, &[cores, slot, core])
 }
 
+/// Slots of unequal length: the analysed core, then pairs of core and slot length.
+pub fn schedule(core: u8, pairs: &[(u8, u8)]) -> Vec<u8> {
+    let numbers = pairs.iter().flat_map(|&(core, length)| [core, length]);
+    field(9, &[core].into_iter().chain(numbers).collect::<Vec<_>>())
+}
+
+/// The pairs of an equal schedule.
+pub fn equal_pairs(cores: u8, slot: u8) -> Vec<(u8, u8)> {
+    (0..cores).map(|core| (core, slot)).collect()
+}
+
 pub fn starts(offsets: &[u8]) -> Vec<u8> {
     field(2, offsets)
 }
@@ -139,6 +165,25 @@ pub fn blank_nodes(number: usize) -> Vec<u8> {
     plain(1, 1).repeat(number)
 }
 
+/// The image with its equal schedule written with tag 9, if it begins with a field of tag 1 that is good: alone it is only unfinished.
+fn with_pairs(image: &[u8]) -> Option<Vec<u8>> {
+    let [1, _, _, cores, slot, core, rest @ ..] = image else { return None };
+    let good = judge(&image[..6]) == Err(Refusal { number: 7, place: 6 });
+    good.then(|| [schedule(*core, &equal_pairs(*cores, *slot)), rest.to_vec()].concat())
+}
+
+/// What has to be written for an image whose field 1 is so many bytes longer: the place of a refusal moves, and nothing else.
+pub fn moved(text: &str, by: usize) -> String {
+    let words: Vec<&str> = text.trim_end().split(' ').collect();
+    match words[..] {
+        ["refused", number, place] => {
+            let place = place.parse::<usize>().map_or(place.to_string(), |place| (place + by).to_string());
+            format!("refused {number} {place}\n")
+        }
+        _ => text.to_string(),
+    }
+}
+
 /// Steps of the calculation above which a random image is left out.
 pub const MOST_WORK: u64 = 3_000_000;
 
@@ -165,6 +210,9 @@ pub fn work(image: &[u8]) -> u64 {
     works[task.entry()]
 }
 
+/// The categories of tasks that are worked out by hand.
+const WORKED: [&str; 3] = ["worked", "worked lines", "worked schedules"];
+
 /// How large random tasks may become.
 pub struct Shape {
     nodes: u64,
@@ -182,8 +230,76 @@ pub const SMALL: Shape = Shape { nodes: 9, starts: 4, children: 4, arms: 3, coun
 pub const MIDDLE: Shape = Shape { nodes: 16, starts: 12, children: 6, arms: 4, count: 6, range_once_in: 2, range: 12 };
 const LARGE: Shape = Shape { nodes: 40, starts: 256, children: 16, arms: 8, count: 60, range_once_in: 2, range: 63 };
 
-pub fn random_bus(random: &mut Random) -> (u64, u64, u64) {
-    let (cores, slot) = match random.below(10) {
+/// The slots of a bus: pairs of core and slot length, and where they are equal cores and slot of tag 1.
+pub struct Schedule {
+    pairs: Vec<(u8, u8)>,
+    equal: Option<(u8, u8)>,
+}
+
+impl Schedule {
+    fn equal(cores: u64, slot: u64) -> Schedule {
+        let (cores, slot) = (cores as u8, slot as u8);
+        Schedule { pairs: equal_pairs(cores, slot), equal: Some((cores, slot)) }
+    }
+
+    /// So many slots of so many cores at most, and so many cycles together. Where there are several cores, a slot seldom has the core of
+    /// the one before, or as often as not.
+    fn unequal(random: &mut Random, slots: u64, cores: u64, period: u64) -> Schedule {
+        let (first, apart) = (random.below(16), *random.one_of(&[1, 3, 5, 7]));
+        let same_once_in = *random.one_of(&[2, 8]);
+        let mut own = 0;
+        let mut pairs: Vec<(u8, u8)> = Vec::new();
+        for _ in 0..slots {
+            if cores > 1 && !random.once_in(same_once_in) {
+                own = (own + random.from(1, cores - 1)) % cores;
+            }
+            pairs.push((((first + own * apart) % 16) as u8, 1));
+        }
+        let at_once = *random.one_of(&[3, 20, 127]);
+        let mut left = period - slots;
+        while left > 0 {
+            let length = &mut random_place(random, &mut pairs).1;
+            let more = random.from(1, left.min(at_once)).min(128 - u64::from(*length));
+            *length += more as u8;
+            left -= more;
+        }
+        Schedule { pairs, equal: None }
+    }
+
+    /// Field 1 for this core: with tag 1 where that can be, but once in 6.
+    fn field(&self, random: &mut Random, core: u8) -> Vec<u8> {
+        match self.equal {
+            Some((cores, slot)) if !random.once_in(6) => bus(cores, slot, core),
+            _ => schedule(core, &self.pairs),
+        }
+    }
+
+    /// For graphs of tasks on one bus.
+    #[allow(dead_code)]
+    pub fn period(&self) -> u64 {
+        self.pairs.iter().map(|&(_, length)| u64::from(length)).sum()
+    }
+
+    /// The core of some slot: of the first, of the last or of any.
+    fn core(&self, random: &mut Random) -> u8 {
+        let last = self.pairs.len() - 1;
+        let own = match random.below(4) {
+            0 => 0,
+            1 => last,
+            _ => random.from(0, last as u64) as usize,
+        };
+        self.pairs[own].0
+    }
+}
+
+fn random_place<'a, T>(random: &mut Random, list: &'a mut [T]) -> &'a mut T {
+    let own = random.below(list.len() as u64) as usize;
+    &mut list[own]
+}
+
+/// Cores and slot of tag 1.
+pub fn random_cores(random: &mut Random) -> (u64, u64) {
+    match random.below(10) {
         0..=4 => (random.from(2, 4), random.from(1, 6)),
         5..=6 => {
             let cores = random.from(2, 16);
@@ -191,35 +307,73 @@ pub fn random_bus(random: &mut Random) -> (u64, u64, u64) {
         }
         7 => *random.one_of(&[(2, 1), (2, 2), (2, 128), (16, 16), (16, 1), (4, 64), (3, 85), (8, 32), (15, 17), (5, 51)]),
         _ => (random.from(2, 5), random.from(6, 20)),
+    }
+}
+
+/// Three times in five equal slots.
+pub fn random_schedule(random: &mut Random) -> Schedule {
+    if random.below(5) < 3 {
+        let (cores, slot) = random_cores(random);
+        return Schedule::equal(cores, slot);
+    }
+    let (slots, cores, period) = match random.below(16) {
+        // a lone core, which owns every cycle
+        0..=1 => {
+            let period: u64 = *random.one_of(&[1, 2, 3, 9, 30, 128, 255, 256]);
+            (random.from(period.div_ceil(128), period.min(4)), 1, period)
+        }
+        // the shortest
+        2 => {
+            let period = random.from(1, 4);
+            (random.from(1, period), 2, period)
+        }
+        3..=8 => (random.from(2, 6), random.from(2, 3), random.from(6, 24)),
+        9..=11 => (random.from(4, 14), random.from(2, 4), random.from(14, 60)),
+        // as many slots as there can be, or nearly
+        12 => (random.from(20, 32), random.from(2, 16), random.from(32, 256)),
+        13 => (32, random.from(2, 5), 256),
+        // long ones, and periods with which the number of lines just fits or does not
+        14 => (random.from(2, 5), 2, *random.one_of(&[200, 255, 256])),
+        _ => (random.from(2, 10), random.from(2, 3), *random.one_of(&[63, 64, 65, 127, 128, 129])),
     };
-    let core = match random.below(4) {
-        0 => 0,
-        1 => cores - 1,
-        _ => random.below(cores),
-    };
-    (cores, slot, core)
+    Schedule::unequal(random, slots, cores, period)
+}
+
+/// Field 1, and the bus that it says.
+fn random_bus(random: &mut Random) -> (Vec<u8>, Bus) {
+    let schedule = random_schedule(random);
+    on_schedule(random, &schedule)
+}
+
+/// The same with this schedule, for the core of one of its slots.
+pub fn on_schedule(random: &mut Random, schedule: &Schedule) -> (Vec<u8>, Bus) {
+    let core = schedule.core(random);
+    let field = schedule.field(random, core);
+    let bus = bus_of(field[0], &field[3..]);
+    (field, bus)
 }
 
 /// A valid image, but for its depth and visits.
 fn random_task(random: &mut Random, shape: &Shape) -> Vec<u8> {
-    let (cores, slot, core) = random_bus(random);
-    let period = cores * slot;
+    let (field_1, bus) = random_bus(random);
+    let period = bus.period();
 
-    // starts at the slot's ends as often as anywhere else
+    // starts at the ends of the core's stretches as often as anywhere else
     let mut from = vec![false; period as usize];
     let wanted = if random.once_in(8) { shape.starts } else { random.from(1, shape.starts) };
     for _ in 0..wanted {
+        let stretch = random.one_of(&bus.stretches);
         let offset = match random.below(4) {
-            0 => core * slot + random.below(2),
-            1 => (core + 1) * slot + period - random.from(0, 2),
+            0 => stretch.first + random.below(2),
+            1 => stretch.first + stretch.length + 2 * period - random.from(0, 2),
             _ => random.below(period),
         };
         from[(offset % period) as usize] = true;
     }
     let from: Vec<u8> = (0..period).filter(|&offset| from[offset as usize]).map(|offset| offset as u8).collect();
 
-    let nodes = random_nodes(random, shape, slot, period);
-    [bus(cores as u8, slot as u8, core as u8), starts(&from), nodes].concat()
+    let nodes = random_nodes(random, shape, &bus);
+    [field_1, starts(&from), nodes].concat()
 }
 
 /// How many lines the blocks of a task have: mostly none, else as many as the period permits or fewer, and seldom any.
@@ -234,8 +388,8 @@ fn random_lines(random: &mut Random, period: u64) -> u64 {
 }
 
 /// The node fields of a task.
-pub fn random_nodes(random: &mut Random, shape: &Shape, slot: u64, period: u64) -> Vec<u8> {
-    let lines = random_lines(random, period);
+pub fn random_nodes(random: &mut Random, shape: &Shape, bus: &Bus) -> Vec<u8> {
+    let lines = random_lines(random, bus.period());
     let mut fields = Vec::new();
     let nodes = random.from(1, shape.nodes);
     for own in 0..nodes {
@@ -247,13 +401,14 @@ pub fn random_nodes(random: &mut Random, shape: &Shape, slot: u64, period: u64) 
         } else {
             random.from(0, 9)
         };
-        fields.extend(random_node(random, shape, own, kind, (slot, period, lines)));
+        fields.extend(random_node(random, shape, own, kind, (bus, lines)));
     }
     fields
 }
 
 /// Where there are lines, most blocks have one.
-fn random_node(random: &mut Random, shape: &Shape, own: u64, kind: u64, (slot, period, lines): (u64, u64, u64)) -> Vec<u8> {
+fn random_node(random: &mut Random, shape: &Shape, own: u64, kind: u64, (bus, lines): (&Bus, u64)) -> Vec<u8> {
+    let (period, most) = (bus.period(), longest_duration(bus));
     // mostly one of the last few nodes, so that most nodes are reached and some are shared
     let child = |random: &mut Random| {
         let back = if random.once_in(4) { own } else { own.min(3) };
@@ -262,7 +417,7 @@ fn random_node(random: &mut Random, shape: &Shape, own: u64, kind: u64, (slot, p
     let range = if random.once_in(shape.range_once_in) { random.from(1, shape.range) } else { 0 };
     let passed = |random: &mut Random| match random.below(8) {
         0 => 0,
-        1..=4 => random.below(2 * slot + 2),
+        1..=4 => random.below(2 * most + 2),
         5 => random.below(period),
         6 => random.below(3 * period),
         _ if shape.range > 3 => random.below(65_536),
@@ -270,11 +425,11 @@ fn random_node(random: &mut Random, shape: &Shape, own: u64, kind: u64, (slot, p
     };
     let accessed = |random: &mut Random| {
         let lowest = match random.below(4) {
-            0 => slot,
+            0 => most,
             1 => 1,
-            _ => random.from(1, slot),
+            _ => random.from(1, most),
         };
-        (lowest as u8, (lowest + range).min(slot) as u8)
+        (lowest as u8, (lowest + range).min(most) as u8)
     };
     match kind {
         0..=3 if lines > 0 && !random.once_in(3) => {
@@ -314,19 +469,28 @@ fn random_node(random: &mut Random, shape: &Shape, own: u64, kind: u64, (slot, p
     }
 }
 
+/// The longest access of the bus that a byte can say.
+pub fn longest_duration(bus: &Bus) -> u64 {
+    bus.longest_access().min(255)
+}
+
 /// A task with as many lines as there can be, on a bus whose period permits them or just does not, or with any bus.
 fn many_lines(random: &mut Random) -> Vec<u8> {
-    let (cores, slot, core) = match random.below(3) {
-        0 => (5, 13, random.below(5)),
-        1 => (4, 16, random.below(4)),
-        _ => random_bus(random),
+    let schedule = match random.below(4) {
+        0 => Schedule::equal(5, 13),
+        1 => Schedule::equal(4, 16),
+        2 => {
+            let (slots, period) = (random.from(2, 8), random.from(64, 65));
+            Schedule::unequal(random, slots, 3, period)
+        }
+        _ => random_schedule(random),
     };
-    let from = starts(&[random.below(cores * slot) as u8]);
-    let mut image = [bus(cores as u8, slot as u8, core as u8), from].concat();
+    let (field_1, bus) = on_schedule(random, &schedule);
+    let mut image = [field_1, starts(&[random.below(bus.period()) as u8])].concat();
     let nodes = random.from(2, 12);
     for own in 0..nodes {
         let kind = if own < 2 { random.from(0, 3) } else { random.from(0, 9) };
-        image.extend(random_node(random, &SMALL, own, kind, (slot, cores * slot, 4)));
+        image.extend(random_node(random, &SMALL, own, kind, (&bus, 4)));
     }
     image
 }
@@ -358,7 +522,8 @@ fn overtaking(random: &mut Random) -> Vec<u8> {
         looped(least, count, 4),
     ];
     let start = if one_offset { (core + 1) * slot % period } else { random.below(period) };
-    [bus(cores as u8, slot as u8, core as u8), starts(&[start as u8]), nodes.concat()].concat()
+    let field_1 = Schedule::equal(cores, slot).field(random, core as u8);
+    [field_1, starts(&[start as u8]), nodes.concat()].concat()
 }
 
 /// A random task that is accepted and calculated in time.
@@ -398,7 +563,7 @@ fn damage(random: &mut Random, valid: &[u8]) -> Vec<u8> {
         match random.below(12) {
             0 => image[at] = random.below(256) as u8,
             1 => image[at] ^= 1 << random.below(8),
-            2 => image[at] = *random.one_of(&[0, 1, 2, 3, 4, 5, 6, 7, 8, 10, 16, 63, 64, 127, 128, 255]),
+            2 => image[at] = *random.one_of(&[0, 1, 2, 3, 4, 5, 6, 7, 8, 9, 10, 15, 16, 63, 64, 127, 128, 129, 255]),
             3 => {
                 image.remove(at);
             }
@@ -431,30 +596,63 @@ fn damage(random: &mut Random, valid: &[u8]) -> Vec<u8> {
 
 /// Fields of any kind with numbers of any size.
 fn loose_fields(random: &mut Random) -> Vec<u8> {
-    let (cores, slot, core) = random_bus(random);
-    let mut image = [bus(cores as u8, slot as u8, core as u8), starts(&[random.below(cores * slot) as u8])].concat();
-    let lines = random_lines(random, cores * slot);
+    let (field_1, bus) = random_bus(random);
+    let mut image = [field_1, starts(&[random.below(bus.period()) as u8])].concat();
+    let lines = random_lines(random, bus.period());
+    let beyond = longest_duration(&bus) + 2;
     let nodes = random.from(1, 12);
     for own in 0..nodes {
         let loose = random.once_in(9);
         let kind = if own == 0 && !loose { random.from(0, 3) } else { random.from(0, 9) };
         if !loose {
-            image.extend(random_node(random, &SMALL, own, kind, (slot, cores * slot, lines)));
+            image.extend(random_node(random, &SMALL, own, kind, (&bus, lines)));
             continue;
         }
         let near = |random: &mut Random| (own + random.below(3)).saturating_sub(1) as u16;
         image.extend(match random.below(7) {
             0 => plain(random.below(200) as u16, random.below(200) as u16),
-            1 => bus_block(random.below(4) as u8, random.below(slot + 2) as u8, random.below(slot + 2) as u8),
+            1 => bus_block(random.below(4) as u8, random.below(beyond) as u8, random.below(beyond) as u8),
             2 => sequence(&[near(random), near(random)]),
             3 => branch(&[near(random), 0]),
             4 => looped(random.below(4) as u16, random.below(4) as u16, near(random)),
             5 => {
-                let (lowest, highest) = (random.below(slot + 2) as u8, random.below(slot + 2) as u8);
+                let (lowest, highest) = (random.below(beyond) as u8, random.below(beyond) as u8);
                 fetch(random.below(5) as u8, lowest, highest, random.below(200) as u16)
             }
             _ => field(random.below(12) as u8, &vec![random.below(3) as u8; random.below(9) as usize]),
         });
+    }
+    image
+}
+
+/// A schedule with tag 9 that has a number just inside or outside of its range, a sum near 256, or another length, and a task that
+/// accesses for the length of one of its stretches or a little more.
+fn loose_schedule(random: &mut Random) -> Vec<u8> {
+    let (slots, period) = *random.one_of(&[(1, 1), (2, 9), (3, 10), (4, 255), (8, 256), (31, 250), (32, 256), (32, 40)]);
+    let Schedule { mut pairs, .. } = Schedule::unequal(random, slots, 3, period);
+    let core = pairs[0].0;
+    for _ in 0..random.below(3) {
+        match random.below(6) {
+            0 => random_place(random, &mut pairs).0 = random.from(14, 17) as u8,
+            1 => random_place(random, &mut pairs).0 = core,
+            2 => random_place(random, &mut pairs).1 = *random.one_of(&[0, 1, 2, 127, 128, 129, 255]),
+            3 => {
+                let length = &mut random_place(random, &mut pairs).1;
+                *length = length.saturating_add(1);
+            }
+            4 => pairs.push((core, random.from(1, 3) as u8)),
+            _ => pairs.rotate_left(1),
+        }
+    }
+    let analysed = if random.once_in(8) { random.below(17) as u8 } else { core };
+    let field_1 = schedule(analysed, &pairs);
+    let stretches = bus_of(9, &field_1[3..]).stretches;
+    let near = if stretches.is_empty() { 1 } else { random.one_of(&stretches).length };
+    let duration = (near + random.below(3)).clamp(1, 255) as u8;
+    let block = if random.once_in(2) { bus_block(2, 1, duration) } else { fetch(0, duration, duration, 1) };
+    let mut image = [field_1, starts(&[random.below(period) as u8]), block, plain(1, 2), sequence(&[1, 0, 1, 0])].concat();
+    if random.once_in(10) {
+        image[2] = image[2].wrapping_add(random.from(254, 258) as u8);
     }
     image
 }
@@ -465,22 +663,32 @@ pub fn all(seed: u64, wanted: usize) -> Vec<Case> {
     let mut all = Cases::default();
     cases::worked(&mut all);
     cases::worked_lines(&mut all);
+    cases::worked_schedules(&mut all);
+    cases::small_schedules(&mut all);
     cases::limits(&mut all);
     cases::limits_of_lines(&mut all);
+    cases::limits_of_schedules(&mut all);
     cases::number_of_lines(&mut all);
     cases::depth_and_visits(&mut all);
     cases::order(&mut all);
     cases::sizes(&mut all);
+    // all worked tasks and every sixth other image are written with tag 9 too
+    for number in 0..all.list.len() {
+        if WORKED.contains(&all.list[number].category) || number % 6 == 0 {
+            all.add_other_way(number);
+        }
+    }
 
     // the images that are damaged: the shorter worked ones and some random ones with many nodes
     let mut models: Vec<Vec<u8>> = all
         .list
         .iter()
-        .filter(|case| ["worked", "worked lines"].contains(&case.category) && case.image.len() < 60)
+        .filter(|case| WORKED.contains(&case.category) && case.image.len() < 60)
+        .step_by(4)
         .map(|case| case.image.clone())
         .collect();
     models.retain(|image| judge(image).is_ok() && work(image) <= MOST_WORK);
-    while models.len() < 60 {
+    while models.len() < 120 {
         let (image, task) = valid_task(&mut random, &SMALL);
         if task.nodes.len() >= 4 {
             models.push(image);
@@ -502,7 +710,7 @@ pub fn all(seed: u64, wanted: usize) -> Vec<Case> {
             }
         }
     }
-    for model in models.iter().step_by(2) {
+    for model in models.iter().step_by(4) {
         for junk in [1, 2, 3, 7, 50] {
             for byte in [0, 3, 255] {
                 let mut image = model.clone();
@@ -554,11 +762,27 @@ pub fn all(seed: u64, wanted: usize) -> Vec<Case> {
                 let image = random_task(&mut random, &LARGE);
                 all.add_quick("any depth and visits", image);
             }
-            14..=16 => {
+            14..=15 => {
                 let shape = if random.once_in(2) { &SMALL } else { &MIDDLE };
                 let (image, _) = valid_task(&mut random, shape);
                 let image = damage(&mut random, &image);
                 all.add_quick("damaged", image);
+            }
+            16 => {
+                let image = loose_schedule(&mut random);
+                all.add_quick("loose schedules", image);
+            }
+            17..=18 => {
+                // three times in four one that is accepted
+                let accepted = !random.once_in(4);
+                let number = loop {
+                    let number = random.below(all.list.len() as u64) as usize;
+                    let image = &all.list[number].image;
+                    if image.first() == Some(&1) && (!accepted || judge(image).is_ok()) {
+                        break number;
+                    }
+                };
+                all.add_other_way(number);
             }
             _ => {
                 let image = loose_fields(&mut random);

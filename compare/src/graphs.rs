@@ -1,6 +1,6 @@
 //! Graphs of task images on one bus clock: "For tight figures as times, each image must list every offset as a start."
 
-use crate::generate::{bus, random_bus, random_nodes, starts, work, Random, SMALL};
+use crate::generate::{on_schedule, random_nodes, random_schedule, starts, work, Random, SMALL};
 use crate::image::{judge, Task as Image};
 use crate::tasks::{by_events, late, numbers, Task};
 use crate::{offsets, runs};
@@ -15,7 +15,8 @@ pub enum Listed {
     One,
 }
 
-/// Tasks that are images on one bus. Those on one core of the table have that core's number on the bus.
+/// Tasks that are images on one bus, whose slots are equal or not; where they are, some may be written with tag 1 and some with tag 9.
+/// Those on one core of the table have that core's number on the bus.
 pub struct Graph {
     period: u64,
     /// the one start where one is listed
@@ -47,17 +48,17 @@ pub fn all(seed: u64, wanted: usize) -> Vec<Graph> {
 }
 
 fn random_graph(random: &mut Random) -> Graph {
-    let (cores, slot, _) = random_bus(random);
-    let period = cores * slot;
+    let schedule = random_schedule(random);
+    let period = schedule.period();
     let start = random.below(period);
     let all: Vec<u8> = (0..period).map(|offset| offset as u8).collect();
     let mut graph = Graph { period, start, every: Vec::new(), one: Vec::new(), shape: Vec::new() };
     let size = if random.once_in(6) { random.from(9, 20) } else { random.from(2, 8) };
     for own in 0..size as usize {
-        let core = random.below(cores);
+        let (field_1, bus) = on_schedule(random, &schedule);
         let (every, one) = loop {
-            let nodes = random_nodes(random, &SMALL, slot, period);
-            let image = |from: &[u8]| [bus(cores as u8, slot as u8, core as u8), starts(from), nodes.clone()].concat();
+            let nodes = random_nodes(random, &SMALL, &bus);
+            let image = |from: &[u8]| [field_1.clone(), starts(from), nodes.clone()].concat();
             let (every, one) = (image(&all), image(&[start as u8]));
             if let (Ok(judged), Ok(with_one)) = (judge(&every), judge(&one)) {
                 if work(&every) <= MOST_WORK && tight(&judged) <= MOST_TIGHT {
@@ -68,7 +69,7 @@ fn random_graph(random: &mut Random) -> Graph {
         graph.every.push(every);
         graph.one.push(one);
         let count = if own == 0 { 0 } else { random.below(4) };
-        graph.shape.push((core as usize, (0..count).map(|_| random.below(own as u64) as usize).collect()));
+        graph.shape.push((bus.core as usize, (0..count).map(|_| random.below(own as u64) as usize).collect()));
     }
     graph
 }
@@ -89,6 +90,17 @@ impl Graph {
     /// Tasks whose image has lines.
     pub fn with_lines(&self) -> usize {
         self.every.iter().filter(|image| image.lines() > 0).count()
+    }
+
+    /// Tasks whose image has tag 9.
+    pub fn with_pairs(&self) -> usize {
+        self.every.iter().filter(|image| image.bus.equal.is_none()).count()
+    }
+
+    /// Whether images with tag 9 have different analysed cores.
+    pub fn shared(&self) -> bool {
+        let cores = || self.every.iter().filter(|image| image.bus.equal.is_none()).map(|image| image.bus.core);
+        cores().min() != cores().max()
     }
 
     /// The task table with the tight figures as times.

@@ -1,5 +1,7 @@
-//! Judges a task image: document 01, "The task image" and "When no figure is given", and change request W9.
+//! Judges a task image: document 01, "The task image" and "When no figure is given", and change requests W5 and W9.
 
+/// "reads at most 16,384 bytes from standard input and judges those"
+pub const MOST_BYTES: usize = 16_384;
 pub const MOST_NODES: usize = 256;
 pub const MOST_DEPTH: u64 = 24;
 pub const MOST_VISITS: u64 = 100_000;
@@ -8,19 +10,73 @@ const MOST_COMBINATIONS: u64 = 1_024;
 /// "a line number 0 to 3"
 pub const MOST_LINES: usize = 4;
 
+/// A slot of the period: the core that owns it, and its length in cycles.
+struct Slot {
+    core: u64,
+    length: u64,
+}
+
+/// Consecutive cycles that the task's core owns, "counted round the period": the offset of the first, and how many.
+#[derive(Clone, PartialEq, Debug)]
+pub struct Stretch {
+    pub first: u64,
+    pub length: u64,
+}
+
 /// The bus and the task's core on it.
 #[derive(Clone, PartialEq, Debug, Default)]
 pub struct Bus {
-    pub cores: u64,
-    pub slot: u64,
     pub core: u64,
+    /// the slot length of tag 1, "one slot length in cycles for all"
+    pub equal: Option<u64>,
+    /// the core that owns each offset, for whoever steps the clock
+    pub owners: Vec<u64>,
+    /// those of the task's core, put together from its slots, for whoever calculates
+    pub stretches: Vec<Stretch>,
 }
 
 impl Bus {
-    /// "a period P = cores × slot"
-    pub fn period(&self) -> u64 {
-        self.cores * self.slot
+    fn new(core: u64, slots: &[Slot], equal: Option<u64>) -> Bus {
+        let owners = slots.iter().flat_map(|slot| (0..slot.length).map(|_| slot.core)).collect();
+        Bus { core, equal, owners, stretches: stretches(core, slots) }
     }
+
+    /// "a period P = cores × slot"; with tag 9 "The period is the sum"
+    pub fn period(&self) -> u64 {
+        self.owners.len() as u64
+    }
+
+    /// With tag 1 the slot length; with tag 9 "A bus duration may not exceed the longest such stretch, nor the period". The cycles that
+    /// the core owns one after another are counted through two periods.
+    pub fn longest_access(&self) -> u64 {
+        let (mut longest, mut owned) = (0, 0);
+        for &owner in self.owners.iter().chain(&self.owners) {
+            owned = if owner == self.core { owned + 1 } else { 0 };
+            longest = owned.max(longest);
+        }
+        longest.min(self.period())
+    }
+}
+
+/// The stretches of a core: slots of it that are neighbours are one, and the last slot of the period is a neighbour of the first.
+fn stretches(core: u64, slots: &[Slot]) -> Vec<Stretch> {
+    let mut all: Vec<Stretch> = Vec::new();
+    let mut offset = 0;
+    for slot in slots {
+        match all.last_mut() {
+            Some(last) if slot.core == core && last.first + last.length == offset => last.length += slot.length,
+            _ if slot.core == core => all.push(Stretch { first: offset, length: slot.length }),
+            _ => {}
+        }
+        offset += slot.length;
+    }
+    if let [first, .., last] = &mut all[..] {
+        if first.first == 0 && last.first + last.length == offset {
+            last.length += first.length;
+            all.remove(0);
+        }
+    }
+    all
 }
 
 /// "A node is one of five kinds, each with its own numbers." The sixth is the block with tag 10, of code fetched once.
@@ -77,9 +133,10 @@ pub fn judge(image: &[u8]) -> Result<Task, Refusal> {
             return refuse(1);
         }
         let tag = image[place];
-        // "the first field's tag is not 1, the second's not 2, or a later one's not 3 to 7", nor 10
+        // "the first field's tag is not 1, the second's not 2, or a later one's not 3 to 7", nor 10; "A field with tag 9 may stand first
+        // in place of tag 1"
         let tag_fits = match fields {
-            0 => tag == 1,
+            0 => tag == 1 || tag == 9,
             1 => tag == 2,
             _ => (3..=7).contains(&tag) || tag == 10,
         };
@@ -109,7 +166,7 @@ pub fn judge(image: &[u8]) -> Result<Task, Refusal> {
             return refuse(6);
         }
         match tag {
-            1 => task.bus = Bus { cores: body[0].into(), slot: body[1].into(), core: body[2].into() },
+            1 | 9 => task.bus = bus_of(tag, body),
             2 => task.starts = body.iter().map(|&o| o.into()).collect(),
             _ => task.nodes.push(node(tag, body)),
         }
@@ -147,6 +204,7 @@ fn length_in_row(tag: u8, length: usize) -> bool {
         5 => (2..=32).contains(&length) && length % 2 == 0,
         6 => (4..=16).contains(&length) && length % 2 == 0,
         7 => length == 6,
+        9 => (3..=65).contains(&length) && length % 2 == 1,
         10 => length == 5,
         _ => false,
     }
@@ -170,18 +228,41 @@ fn values_in_row(tag: u8, body: &[u8], bus: &Bus) -> bool {
         }
         4 => {
             let (kind, lowest, highest) = (body[0], u64::from(body[1]), u64::from(body[2]));
-            (kind == 1 || kind == 2) && 1 <= lowest && lowest <= highest && highest <= bus.slot
+            (kind == 1 || kind == 2) && 1 <= lowest && lowest <= highest && highest <= bus.longest_access()
         }
         7 => {
             let (least, greatest) = (two_bytes(body), two_bytes(&body[2..]));
             least <= greatest && greatest <= 10_000
         }
+        // "pairs of core (0 to 15) and slot length (1 to 128)"; "The period is the sum, at most 256, and the analysed core has at least
+        // one pair."
+        9 => {
+            let (analysed, slots) = (u64::from(body[0]), pairs(body));
+            let each = slots.iter().all(|slot| slot.core <= 15 && (1..=128).contains(&slot.length));
+            let sum: u64 = slots.iter().map(|slot| slot.length).sum();
+            each && sum <= 256 && slots.iter().any(|slot| slot.core == analysed)
+        }
         10 => {
             let (line, lowest, highest) = (usize::from(body[0]), u64::from(body[1]), u64::from(body[2]));
-            line < MOST_LINES && 1 <= lowest && lowest <= highest && highest <= bus.slot
+            line < MOST_LINES && 1 <= lowest && lowest <= highest && highest <= bus.longest_access()
         }
         _ => true,
     }
+}
+
+/// The slots that a field with tag 9 has behind the analysed core.
+fn pairs(body: &[u8]) -> Vec<Slot> {
+    body[1..].chunks(2).map(|pair| Slot { core: pair[0].into(), length: pair[1].into() }).collect()
+}
+
+/// The bus that field 1 says: with tag 1 a slot for each core, in their order.
+pub fn bus_of(tag: u8, body: &[u8]) -> Bus {
+    if tag == 9 {
+        return Bus::new(body[0].into(), &pairs(body), None);
+    }
+    let (cores, slot) = (u64::from(body[0]), u64::from(body[1]));
+    let slots: Vec<Slot> = (0..cores).map(|core| Slot { core, length: slot }).collect();
+    Bus::new(body[2].into(), &slots, Some(slot))
 }
 
 /// The child numbers named by a field; none in a bus, starts or block field.

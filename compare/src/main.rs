@@ -18,8 +18,9 @@ mod report;
 mod runs;
 
 use child::{Feed, Watched};
-use generate::{hexadecimal, Case, Expected};
-use reference::{Lines, Way};
+use generate::{hexadecimal, moved, Case, Expected};
+use image::MOST_BYTES;
+use reference::{Lines, Unequal, Way};
 use report::{Failure, Options, Tests};
 use std::collections::BTreeMap;
 use std::sync::atomic::{AtomicBool, AtomicUsize, Ordering};
@@ -49,13 +50,21 @@ struct Summary {
     /// accepted images with lines, and those of them whose published exit set has offsets at which no run ends
     with_lines: usize,
     wider: usize,
+    /// accepted images with tag 9, those of them that have lines, and refused ones by number
+    unequal: Unequal,
+    unequal_with_lines: usize,
+    unequal_refused: BTreeMap<u64, usize>,
+    /// what the program wrote in each test, by its number
+    written: BTreeMap<usize, String>,
+    /// pairs of images that are one written either way: accepted and refused ones
+    pairs: (usize, usize),
 }
 
 /// Ways of giving an input other than all at once through a pipe.
 fn specials() -> Vec<Test> {
     let mut tests = Vec::new();
     let mut add = |category, image: &[u8], feed| {
-        let case = Case { category, image: image.to_vec(), expected: Expected::Open };
+        let case = Case { category, image: image.to_vec(), expected: Expected::Open, same_as: None };
         tests.push(Test { case, feed });
     };
     let pause = Duration::from_micros(400);
@@ -63,7 +72,7 @@ fn specials() -> Vec<Test> {
         [generate::bus(2, 5, 0), generate::starts(&[3, 5]), generate::bus_block(2, 2, 2), generate::sequence(&[0, 0])].concat();
     let refused = [twice.clone(), generate::plain(1, 0)].concat();
     let cut = twice[..twice.len() - 1].to_vec();
-    let longest = cases::longest_image(cases::longest_block(), 254);
+    let longest = cases::longest_image(cases::longest_schedule(), cases::longest_block(), 254);
 
     for image in [&twice, &refused, &cut] {
         for size in [1, 2, 3, 4, 5, 7, 11] {
@@ -71,7 +80,7 @@ fn specials() -> Vec<Test> {
         }
         add("in pieces", image, Feed::Pieces { size: 10, pause: Duration::from_millis(40) });
     }
-    for size in [97, 512, 1_000, 4_096, 8_192, 9_197] {
+    for size in [97, 512, 1_000, 4_096, 8_192, 9_197, 9_259] {
         add("in pieces", &longest, Feed::Pieces { size, pause });
         add("in pieces", &[&longest[..], &[3]].concat(), Feed::Pieces { size, pause });
         add("in pieces", &[&longest[..], &[3, 0, 4]].concat(), Feed::Pieces { size, pause });
@@ -85,17 +94,17 @@ fn specials() -> Vec<Test> {
     add("endless", &longest, Feed::Endless { again: generate::plain(1, 2) });
     add("endless", &longest, Feed::Endless { again: vec![9; 70_000] });
     // "reads at most 16,384 bytes": it does not wait for more
-    add("left open", &vec![0; reference::MOST_BYTES], Feed::LeftOpen);
+    add("left open", &vec![0; MOST_BYTES], Feed::LeftOpen);
     let mut full = longest.clone();
-    full.resize(reference::MOST_BYTES, 5);
+    full.resize(MOST_BYTES, 5);
     add("left open", &full, Feed::LeftOpen);
 
     for image in [&twice, &refused, &longest, &full] {
-        add("from a file", image, Feed::FromFile { most: reference::MOST_BYTES as u64 });
+        add("from a file", image, Feed::FromFile { most: MOST_BYTES as u64 });
     }
     for size in [16_385, 20_000, 100_000] {
         full.resize(size, 6);
-        add("from a file", &full, Feed::FromFile { most: reference::MOST_BYTES as u64 });
+        add("from a file", &full, Feed::FromFile { most: MOST_BYTES as u64 });
     }
 
     // "`refused 7 0` for an empty input": no byte can be read in each of these
@@ -108,8 +117,8 @@ fn specials() -> Vec<Test> {
     for length in 0..=twice.len() {
         add("a read fails", &twice[..length], Feed::Stalled);
     }
-    full.resize(reference::MOST_BYTES, 6);
-    for image in [&refused, &longest, &full[..reference::MOST_BYTES - 1].to_vec(), &full] {
+    full.resize(MOST_BYTES, 6);
+    for image in [&refused, &longest, &full[..MOST_BYTES - 1].to_vec(), &full] {
         add("a read fails", image, Feed::Stalled);
     }
     tests
@@ -119,7 +128,7 @@ fn specials() -> Vec<Test> {
 fn readable(test: &Test) -> Vec<u8> {
     let mut input = test.case.image.clone();
     if let Feed::Endless { again } = &test.feed {
-        while input.len() < reference::MOST_BYTES {
+        while input.len() < MOST_BYTES {
             input.extend(again);
         }
     }
@@ -128,7 +137,7 @@ fn readable(test: &Test) -> Vec<u8> {
 
 /// Runs one test and enters it in the summary.
 fn perform(number: usize, test: &Test, thread: usize, options: &Options, watched: &Watched, summary: &Mutex<Summary>) {
-    let fails = test.feed.fails(&test.case.image, reference::MOST_BYTES);
+    let fails = test.feed.fails(&test.case.image, MOST_BYTES);
     let answer = if fails { reference::unread() } else { reference::answer(&readable(test), STEPS) };
     let by_hand = match (&test.case.expected, &answer.way) {
         (Expected::Open, _) => true,
@@ -164,8 +173,19 @@ fn perform(number: usize, test: &Test, thread: usize, options: &Options, watched
     summary.tests.tell(number, test.case.category, failed);
     summary.with_lines += usize::from(answer.lines != Lines::None);
     summary.wider += usize::from(answer.lines == Lines::Wider);
+    let unequal = test.case.image.first() == Some(&9);
+    if let Some(task) = &answer.task {
+        summary.unequal.count(task);
+        summary.unequal_with_lines += usize::from(unequal && answer.lines != Lines::None);
+    }
+    if let Ok(output) = got {
+        summary.written.insert(number, String::from_utf8_lossy(&output.written).into_owned());
+    }
     match answer.way {
-        Way::Refused(number) => *summary.refused.entry(number).or_default() += 1,
+        Way::Refused(number) => {
+            *summary.refused.entry(number).or_default() += 1;
+            *summary.unequal_refused.entry(number).or_default() += usize::from(unequal);
+        }
         Way::Enumerated { runs } => {
             summary.enumerated += 1;
             summary.runs += runs;
@@ -175,11 +195,32 @@ fn perform(number: usize, test: &Test, thread: usize, options: &Options, watched
     }
 }
 
+/// "An accepted image whose equal schedule is written either way gives equal answers": what the program itself wrote for both; of refused
+/// ones the place moves. The tests with images begin with this number.
+fn compare_pairs(tests: &[Test], first: usize, summary: &mut Summary) {
+    for (number, test) in tests.iter().enumerate() {
+        let Some(other) = test.case.same_as.map(|other| first + other) else { continue };
+        let (Some(with_1), Some(with_9)) = (summary.written.get(&other), summary.written.get(&number)) else { continue };
+        let expected = moved(with_1, test.case.image.len() - tests[other].case.image.len());
+        let refused = expected.starts_with("refused");
+        let failed = (expected != *with_9).then(|| Failure {
+            by_program: true,
+            why: "another answer than to the image with tag 1",
+            input: ("image", hexadecimal(&test.case.image)),
+            expected,
+            got: with_9.clone(),
+        });
+        summary.tests.tell(number, "pairs either way", failed);
+        summary.pairs.0 += usize::from(!refused);
+        summary.pairs.1 += usize::from(refused);
+    }
+}
+
 fn main() {
     let threads = std::thread::available_parallelism().map_or(2, |number| number.get()).min(8) as u64;
     let numbers = [
         ("--seed", 1),
-        ("--images", 27_500),
+        ("--images", 32_000),
         ("--threads", threads),
         ("--limit", 30),
         ("--seconds", 140),
@@ -189,6 +230,7 @@ fn main() {
     let (seed, threads) = (options.number("--seed"), options.size("--threads").max(1));
     let begun = Instant::now();
     let mut tests = specials();
+    let first = tests.len();
     tests.extend(generate::all(seed, options.size("--images")).into_iter().map(|case| Test { case, feed: Feed::Whole }));
 
     let summary = Mutex::new(Summary::default());
@@ -224,17 +266,30 @@ fn main() {
     });
 
     let mut summary = summary.into_inner().unwrap_or_else(|broken| broken.into_inner());
+    compare_pairs(&tests, first, &mut summary);
     summary.tests.show(&format!("seed {seed}, {threads} threads, {:.1} s", begun.elapsed().as_secs_f64()));
     println!("accepted: {} enumerated in {} runs, {} by calculation", summary.enumerated, summary.runs, summary.calculated);
     println!("accepted with lines: {}, of them with published exits at which no run ends: {}", summary.with_lines, summary.wider);
-    let refused: Vec<String> = summary.refused.iter().map(|(number, all)| format!("{number}: {all}")).collect();
-    println!("refused by number: {}", refused.join(", "));
+    let by_number = |refused: &BTreeMap<u64, usize>| {
+        let all: Vec<String> = refused.iter().map(|(number, all)| format!("{number}: {all}")).collect();
+        all.join(", ")
+    };
+    println!("refused by number: {}", by_number(&summary.refused));
+    println!("accepted with tag 9: {}; with lines: {}", summary.unequal, summary.unequal_with_lines);
+    println!("refused with tag 9 by number: {}", by_number(&summary.unequal_refused));
+    println!("pairs written either way: {} accepted, {} refused", summary.pairs.0, summary.pairs.1);
     println!("not read whole: {}", summary.unread);
     // every answer of the papers that `figure` can give was met, and runs were enumerated; many images have lines, and many of these show
-    // whose exits are counted, and still more have none
-    let each_refusal = (1..=9).chain([18]).all(|number| summary.refused.get(&number).copied().unwrap_or(0) >= 10);
-    let lines = summary.with_lines >= 1_000 && summary.wider >= 500;
-    let without = summary.with_lines * 2 <= summary.enumerated + summary.calculated;
-    let met = each_refusal && lines && without && summary.enumerated >= 500 && summary.calculated >= 100 && summary.unread >= 20;
-    summary.tests.close(tests.len(), &[(met, "too few images of some kind")], LEAST_PASSED);
+    // whose exits are counted, and still more have none; many have slots of unequal length, of every kind, and as many have not
+    let each =
+        |refused: &BTreeMap<u64, usize>| (1..=9).chain([18]).all(|number| refused.get(&number).copied().unwrap_or(0) >= 10);
+    let each_refusal = each(&summary.refused) && each(&summary.unequal_refused);
+    let accepted = summary.enumerated + summary.calculated;
+    let lines = summary.with_lines >= 1_000 && summary.wider >= 500 && summary.with_lines * 2 <= accepted;
+    let unequal = summary.unequal.met(50) && summary.unequal.all >= 2_000 && summary.unequal.all * 3 <= accepted * 2;
+    let schedules = unequal && summary.unequal_with_lines >= 500 && summary.pairs.0 >= 300 && summary.pairs.1 >= 300;
+    let ways = summary.enumerated >= 500 && summary.calculated >= 100 && summary.unread >= 20;
+    let met = each_refusal && lines && schedules && ways;
+    let pairs = tests.iter().filter(|test| test.case.same_as.is_some()).count();
+    summary.tests.close(tests.len() + pairs, &[(met, "too few images of some kind")], LEAST_PASSED);
 }

@@ -1,4 +1,4 @@
-//! Both figures offset by offset: document 01, "Both figures", and change request W9.
+//! Both figures offset by offset: document 01, "Both figures", and change requests W5 and W9.
 
 use crate::image::{Bus, Node, Task, MOST_LINES};
 use std::collections::BTreeMap;
@@ -12,16 +12,32 @@ type Combinations = BTreeMap<Lines, Times>;
 /// For each offset below P whether it is in the set.
 pub type Set = Vec<bool>;
 
-/// Equation 7 in its three cases, for 1 ≤ e ≤ slot.
+/// Equation 7 in its three cases, for 1 ≤ e ≤ slot; "Both figures of tag 9 images use this wait for Equation 7's".
 pub fn wait(bus: &Bus, offset: u64, e: u64) -> u64 {
-    let first = bus.core * bus.slot;
+    let Some(slot) = bus.equal else { return least_wait(bus, offset, e) };
+    let first = bus.core * slot;
     if offset < first {
         first - offset
-    } else if offset <= first + bus.slot - e {
+    } else if offset <= first + slot - e {
         0
     } else {
         first + bus.period() - offset
     }
+}
+
+/// "the least number of cycles after which that core owns e consecutive cycles, counted round the period": of the stretches that are long
+/// enough, each by the cycles that have passed since it began last.
+fn least_wait(bus: &Bus, offset: u64, e: u64) -> u64 {
+    let waits = bus.stretches.iter().filter(|stretch| e <= stretch.length).map(|stretch| {
+        let since = (offset + bus.period() - stretch.first) % bus.period();
+        // a stretch of the whole period has no end
+        if since + e <= stretch.length || stretch.length == bus.period() {
+            0
+        } else {
+            bus.period() - since
+        }
+    });
+    waits.min().expect("a stretch that is long enough")
 }
 
 /// The cycles of each execution of a block from this offset. For a block with tag 10 that is the first execution or a later one, as the

@@ -1,10 +1,8 @@
-//! What `figure` has to write for an input, by this folder's own reading of document 01 and of change request W9.
+//! What `figure` has to write for an input, by this folder's own reading of document 01 and of change requests W5 and W9.
 
-use crate::image::{judge, Task};
+use crate::image::{judge, Node, Task, MOST_BYTES};
 use crate::{offsets, runs};
-
-/// "reads at most 16,384 bytes from standard input and judges those"
-pub const MOST_BYTES: usize = 16_384;
+use std::fmt;
 
 /// How an answer was found. `Unread`: a read fails, so that there is none.
 pub enum Way {
@@ -25,9 +23,56 @@ pub enum Lines {
     Wider,
 }
 
+/// Accepted images with tag 9: all, and those of them in which the core has several stretches, an access is longer than one of these, a
+/// stretch goes round the end of the period, the core owns every cycle, and the period is 1.
+#[derive(Default)]
+pub struct Unequal {
+    pub all: usize,
+    pub several: usize,
+    pub passed_over: usize,
+    pub round: usize,
+    pub every: usize,
+    pub period_1: usize,
+}
+
+impl Unequal {
+    pub fn count(&mut self, task: &Task) {
+        if task.bus.equal.is_some() {
+            return;
+        }
+        let (period, stretches) = (task.bus.period(), &task.bus.stretches);
+        let longest = task.nodes.iter().map(|node| match node {
+            Node::Access { highest, .. } | Node::Fetch { highest, .. } => *highest,
+            _ => 0,
+        });
+        let longest = longest.max().unwrap_or(0);
+        self.all += 1;
+        self.several += usize::from(stretches.len() > 1);
+        self.passed_over += usize::from(stretches.iter().any(|stretch| stretch.length < longest));
+        self.round += usize::from(stretches.iter().any(|stretch| stretch.first + stretch.length > period));
+        self.every += usize::from(stretches.iter().any(|stretch| stretch.length == period));
+        self.period_1 += usize::from(period == 1);
+    }
+
+    /// Whether so many of each were met.
+    pub fn met(&self, least: usize) -> bool {
+        [self.several, self.passed_over, self.round, self.every, self.period_1].into_iter().all(|met| met >= least)
+    }
+}
+
+impl fmt::Display for Unequal {
+    fn fmt(&self, to: &mut fmt::Formatter) -> fmt::Result {
+        write!(to, "{}, of them with several stretches: {}", self.all, self.several)?;
+        write!(to, ", an access longer than one of them: {}", self.passed_over)?;
+        write!(to, ", one round the period: {}, every cycle owned: {}, period 1: {}", self.round, self.every, self.period_1)
+    }
+}
+
 pub struct Answer {
     pub text: String,
     pub way: Way,
+    /// of an accepted image
+    pub task: Option<Task>,
     pub lines: Lines,
     /// where the enumeration and the calculation, or the calculation's own parts, disagree
     pub doubt: Option<String>,
@@ -50,6 +95,7 @@ pub fn answer(input: &[u8], steps: u64) -> Answer {
         Err(refusal) => Answer {
             text: format!("refused {} {}\n", refusal.number, refusal.place),
             way: Way::Refused(refusal.number),
+            task: None,
             lines: Lines::None,
             doubt: None,
         },
@@ -60,14 +106,14 @@ pub fn answer(input: &[u8], steps: u64) -> Answer {
                 text += &format!("{offset} {time}\n");
             }
             let way = figures.runs.map_or(Way::Calculated, |runs| Way::Enumerated { runs });
-            Answer { text, way, lines: figures.lines, doubt: figures.doubt }
+            Answer { text, way, task: Some(task), lines: figures.lines, doubt: figures.doubt }
         }
     }
 }
 
 /// Where a read fails, no part of the input is judged.
 pub fn unread() -> Answer {
-    Answer { text: String::new(), way: Way::Unread, lines: Lines::None, doubt: None }
+    Answer { text: String::new(), way: Way::Unread, task: None, lines: Lines::None, doubt: None }
 }
 
 /// The figures by calculation, and by enumeration too where so many steps are enough for it.

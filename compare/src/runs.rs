@@ -1,5 +1,6 @@
 //! Enumerates runs by the clock, choice by choice and cycle by cycle, and merges nothing: document 01, "The bus and a run", and change
-//! request W9, "A run's state gains the lines fetched, at first none".
+//! requests W9, "A run's state gains the lines fetched, at first none", and W5, "an access may start where that core owns the next e
+//! cycles".
 //!
 //! Each run is executed anew from its start. A list of choices says what it takes wherever a choice is open; after the run
 //! the last choice that has another possibility moves on by one, and those behind it are taken from the first again.
@@ -175,9 +176,9 @@ impl<'a> Run<'a> {
     }
 }
 
-/// "it starts only where all e cycles lie inside the core's slot of that period"
+/// "it starts only where all e cycles lie inside the core's slot of that period"; with tag 9 "where that core owns the next e cycles",
+/// "counted round the period". Both ask who owns each cycle: with tag 1 the one behind a core's slot is another core's, at the end of the
+/// period too.
 fn may_start(bus: &Bus, offset: u64, e: u64) -> bool {
-    // "Core p owns offsets p × slot to (p + 1) × slot − 1."
-    let owned = |cycle: u64| bus.core * bus.slot <= cycle && cycle < (bus.core + 1) * bus.slot;
-    (offset..offset + e).all(owned)
+    (offset..offset + e).all(|cycle| bus.owners[(cycle % bus.period()) as usize] == bus.core)
 }

@@ -23,6 +23,7 @@ impl Fault {
     }
 }
 
+#[derive(Clone)]
 struct Node {
     tag: u8,
     place: usize,
@@ -39,19 +40,16 @@ struct Node {
     children: Vec<usize>,
 }
 
-#[derive(Default)]
+#[derive(Clone, Default)]
 struct Image {
-    cores: u64,
+    period: u64,
+    /// the longest access: the slot length of tag 1
     slot: u64,
     core: u64,
+    /// with tag 9, for each cycle of the period the number of the core's stretch that it belongs to, or none
+    stretches: Vec<Option<usize>>,
     starts: Vec<u64>,
     nodes: Vec<Node>,
-}
-
-impl Image {
-    fn period(&self) -> u64 {
-        self.cores * self.slot
-    }
 }
 
 /// Of offsets, of lines, or of node numbers.
@@ -152,7 +150,11 @@ fn answer_lines([no_last_line_feed, line_too_many, bad_status]: [bool; 3], answe
 }
 
 fn read_input(fault: &Fault) -> Vec<u8> {
-    let most = if fault.is("stops-at-9198") { 9_198 } else { 16_384 };
+    let most = match fault.0.as_str() {
+        "stops-at-9198" => 9_198,
+        "stops-at-9260" => 9_260,
+        _ => 16_384,
+    };
     let mut buffer = vec![0; most];
     let mut filled = 0;
     // standard input is read directly, without a buffer that would read more
@@ -232,11 +234,17 @@ fn judge(fault: &Fault, bytes: &[u8]) -> Result<Image, Refusal> {
     let mut number = 0;
     while place < bytes.len() {
         let rest = &bytes[place..];
-        let shown = if fault.is("place-after-head") { place + 3 } else { place };
+        let shown = match fault.0.as_str() {
+            "place-after-head" => place + 3,
+            "place-behind-tag-1" if place > 0 && bytes[0] == 9 => place + 3 - bytes[2] as usize,
+            _ => place,
+        };
         let tag = rest[0];
         let tag_good = match number {
-            0 => tag == 1,
+            0 => tag == 1 && !fault.is("tag-1-refused") || tag == 9 && !fault.is("tag-9-refused"),
+            1 if tag == 1 || tag == 9 => fault.is("second-schedule"),
             1 => tag == 2 || fault.is("second-tag-free") && node_tag(fault, tag),
+            _ if tag == 9 && fault.is("schedule-passed-over") => true,
             _ => node_tag(fault, tag),
         };
         if rest.len() < 3 {
@@ -259,6 +267,9 @@ fn judge(fault: &Fault, bytes: &[u8]) -> Result<Image, Refusal> {
             _ => 256,
         };
         let mut put_off = None;
+        if tag == 9 && number == 0 && there < length && fault.is("schedule-cut-unfinished") {
+            return Err((7, bytes.len()));
+        }
         for check in order {
             let (refusal, holds) = match check {
                 Tag => (2, !tag_good),
@@ -266,11 +277,14 @@ fn judge(fault: &Fault, bytes: &[u8]) -> Result<Image, Refusal> {
                 Full => (3, number >= 2 && image.nodes.len() >= nodes_most),
                 Length => (4, !length_good(fault, tag, length)),
                 Cut => (1, there < length),
+                Value if tag == 9 && fault.is("schedule-value-as-length") => (4, !schedule_good(fault, &body, length)),
                 Value => (5, !value_good(fault, &image, tag, &body[..length.max(6)], length)),
                 Forward => (6, !children_good(fault, image.nodes.len() as u64, tag, &body, length)),
             };
             if holds && refusal >= 5 && number >= 2 && fault.is("unreached-unjudged") {
                 put_off = put_off.or(Some((refusal, shown)));
+            } else if holds && refusal == 5 && tag == 9 && fault.is("schedule-place-of-pair") {
+                return Err((refusal, shown + 4 + 2 * bad_pair(&body, length)));
             } else if holds {
                 return Err((refusal, shown));
             }
@@ -278,10 +292,13 @@ fn judge(fault: &Fault, bytes: &[u8]) -> Result<Image, Refusal> {
         let kind = body[0];
         match tag {
             1 => {
-                image.cores = body[0].into();
                 image.slot = body[1].into();
+                image.period = u64::from(body[0]) * image.slot;
                 image.core = body[2].into();
+                image.stretches.clear();
             }
+            9 if number >= 2 => {}
+            9 => own_stretches(fault, &mut image, &body, length),
             2 => image.starts = body[..length].iter().map(|&start| start.into()).collect(),
             _ => {
                 let (low, high) = match tag {
@@ -304,8 +321,9 @@ fn judge(fault: &Fault, bytes: &[u8]) -> Result<Image, Refusal> {
                 }
             }
         }
-        place += 3 + length;
-        number += 1;
+        place += if tag == 9 && fault.is("starts-at-6") { 6 } else { 3 + length };
+        // a second field 1, which a fault let through, stands in place of the first
+        number += usize::from(number != 1 || tag != 1 && tag != 9);
     }
     if image.nodes.is_empty() {
         return Err((7, if fault.is("place-of-unfinished") { 0 } else { bytes.len() }));
@@ -366,10 +384,14 @@ fn wide(fault: &Fault, image: &Image, reached: &Set) -> bool {
         _ => numbers.iter().max().map_or(0, |line| line + 1),
     };
     let product = match fault.0.as_str() {
-        "lines-doubled" => image.period() * 2 * lines.max(1),
-        "lines-in-a-byte" => (image.period() << lines) % 256,
+        "lines-doubled" => image.period * 2 * lines.max(1),
+        "lines-in-a-byte" => (image.period << lines) % 256,
         "lines-of-slot" => image.slot << lines,
-        _ => image.period() << lines.min(40),
+        "schedule-lines-unjudged" if !image.stretches.is_empty() => 0,
+        "schedule-lines-of-pairs" if !image.stretches.is_empty() => {
+            (image.stretches.iter().flatten().collect::<BTreeSet<_>>().len() as u64) << lines
+        }
+        _ => image.period << lines.min(40),
     };
     match fault.0.as_str() {
         "lines-unjudged" => false,
@@ -392,6 +414,17 @@ fn length_good(fault: &Fault, tag: u8, length: usize) -> bool {
         6 if fault.is("one-arm") => length >= 2 && length <= 16 && length % 2 == 0,
         6 => length >= 4 && length <= 16 && length % 2 == 0,
         7 => length == 6,
+        9 => match fault.0.as_str() {
+            "schedule-even-length" => length >= 3 && length <= 65,
+            "schedule-length-66" => length >= 3 && length <= 66 && (length % 2 == 1 || length == 66),
+            "schedule-length-1" => length >= 1 && length <= 65 && length % 2 == 1,
+            "schedule-length-3-refused" => length >= 5 && length <= 65 && length % 2 == 1,
+            "schedule-length-65-refused" => length >= 3 && length <= 63 && length % 2 == 1,
+            "schedule-length-67" => length >= 3 && length <= 67 && length % 2 == 1,
+            "schedule-length-in-a-byte" => length % 256 >= 3 && length % 256 <= 65 && length % 2 == 1,
+            "schedule-any-length" => length >= 3 && length % 2 == 1,
+            _ => length >= 3 && length <= 65 && length % 2 == 1,
+        },
         10 if fault.is("fetch-length-4") => length == 4 || length == 5,
         10 if fault.is("fetch-length-6") => length == 5 || length == 6,
         10 if fault.is("fetch-length-3") => length == 3,
@@ -415,7 +448,7 @@ fn value_good(fault: &Fault, image: &Image, tag: u8, body: &[u8], length: usize)
         }
         2 => (0..length).all(|place| {
             let ascending = place == 0 || one(place - 1) < one(place) || fault.is("starts-equal") && one(place - 1) == one(place);
-            ascending && (one(place) < image.period() || fault.is("start-at-period") && one(place) == image.period())
+            ascending && (one(place) < image.period || fault.is("start-at-period") && one(place) == image.period)
         }),
         3 => {
             let most = if fault.is("difference-64") { 64 } else { 63 };
@@ -427,8 +460,9 @@ fn value_good(fault: &Fault, image: &Image, tag: u8, body: &[u8], length: usize)
             let kind = one(0) == 1 || one(0) == 2 || one(0) == 3 && fault.is("kind-3") || one(0) == 0 && fault.is("kind-0");
             kind && (one(1) >= 1 || fault.is("duration-0"))
                 && one(1) <= one(2)
-                && one(2) <= image.slot + u64::from(fault.is("duration-above-slot"))
+                && one(2) <= longest(fault, image) + u64::from(fault.is("duration-above-slot"))
         }
+        9 => schedule_good(fault, body, length),
         10 => {
             let line = match fault.0.as_str() {
                 "line-4-accepted" => one(0) <= 4,
@@ -445,9 +479,13 @@ fn value_good(fault: &Fault, image: &Image, tag: u8, body: &[u8], length: usize)
                 "hit-above-lowest-refused" => two(3) <= one(1),
                 _ => true,
             };
+            let longest = match fault.0.as_str() {
+                "fetch-above-stretch" if !image.stretches.is_empty() => 255,
+                _ => longest(fault, image) + u64::from(fault.is("fetch-above-slot")),
+            };
             let range = (one(1) >= 1 || fault.is("fetch-duration-0"))
                 && (one(1) <= one(2) || fault.is("fetch-reversed"))
-                && one(2) <= image.slot + u64::from(fault.is("fetch-above-slot"));
+                && one(2) <= longest;
             line && hit && (range || fault.is("fetch-range-unjudged"))
         }
         7 => {
@@ -455,6 +493,188 @@ fn value_good(fault: &Fault, image: &Image, tag: u8, body: &[u8], length: usize)
                 && two(2) <= if fault.is("count-10001") { 10_001 } else { 10_000 }
         }
         _ => true,
+    }
+}
+
+/// The pairs of a field with tag 9: core and slot length.
+fn pairs(fault: &Fault, body: &[u8], length: usize) -> Vec<(u64, u64)> {
+    let all = body.iter().take(length).skip(1).map(|&byte| byte as u64).collect::<Vec<_>>();
+    let pair = |pair: &[u64]| match fault.0.as_str() {
+        "schedule-pairs-swapped" => (pair[1], pair[0]),
+        "schedule-core-in-4-bits" => (pair[0] % 16, pair[1]),
+        "schedule-slot-in-7-bits" => (pair[0], pair[1] % 128),
+        _ => (pair[0], pair[1]),
+    };
+    all.chunks_exact(2).map(pair).collect()
+}
+
+/// The number of the first pair that is out of range, or 0.
+fn bad_pair(body: &[u8], length: usize) -> usize {
+    let all = pairs(&Fault::default(), body, length);
+    all.iter().position(|&(core, slot)| core > 15 || slot == 0 || slot > 128).unwrap_or(0)
+}
+
+fn schedule_good(fault: &Fault, body: &[u8], length: usize) -> bool {
+    let analysed = body[0] as u64;
+    let mut all = pairs(fault, body, length);
+    let sum: u64 = all.iter().map(|&(_, slot)| slot).sum();
+    let cores: Set = all.iter().map(|&(core, _)| core).collect();
+    let has_pair = match fault.0.as_str() {
+        "schedule-analysed-unjudged" => true,
+        "schedule-analysed-below-16" => analysed <= 15,
+        "schedule-analysed-below-cores" => analysed < cores.len() as u64,
+        "schedule-analysed-below-pairs" => analysed < all.len() as u64,
+        "schedule-analysed-first" => all.first().is_some_and(|pair| pair.0 == analysed),
+        "schedule-analysed-0-refused" => analysed > 0 && cores.contains(&analysed),
+        "schedule-analysed-in-4-bits" => cores.contains(&(analysed % 16)),
+        _ => cores.contains(&analysed),
+    };
+    let sum_good = match fault.0.as_str() {
+        "schedule-sum-257" => sum <= 257,
+        "schedule-sum-256-refused" => sum <= 255,
+        "schedule-sum-unjudged" => true,
+        "schedule-period-1-refused" => sum >= 2 && sum <= 256,
+        "schedule-of-own-slots" => all.iter().filter(|pair| pair.0 == analysed).map(|pair| pair.1).sum::<u64>() <= 256,
+        _ => sum <= 256,
+    };
+    let number_good = match fault.0.as_str() {
+        "schedule-one-core-refused" => cores.len() >= 2,
+        "schedule-contiguous" => cores.iter().zip(0..).all(|(&core, own)| core == own),
+        "schedule-core-twice-refused" => cores.len() == all.len(),
+        "schedule-equal-refused" => {
+            all.len() < 2 || !all.iter().zip(0..).all(|(&(core, slot), own)| core == own && slot == all[0].1)
+        }
+        "schedule-neighbours-refused" => !all.windows(2).any(|two| two[0].0 == two[1].0),
+        _ => true,
+    };
+    match fault.0.as_str() {
+        "schedule-first-pair-judged" => all.truncate(1),
+        "schedule-last-pair-unjudged" => all.truncate(all.len().saturating_sub(1)),
+        "schedule-own-pairs-judged" => all.retain(|pair| pair.0 == analysed),
+        _ => {}
+    }
+    let each = all.iter().all(|&(core, slot)| {
+        let core_good = match fault.0.as_str() {
+            "schedule-core-16" => core <= 16,
+            "schedule-core-15-refused" => core <= 14,
+            "schedule-core-unjudged" => true,
+            _ => core <= 15,
+        };
+        let slot_good = match fault.0.as_str() {
+            "schedule-slot-0" => slot <= 128,
+            "schedule-slot-1-refused" => slot >= 2 && slot <= 128,
+            "schedule-slot-128-refused" => slot >= 1 && slot <= 127,
+            "schedule-slot-129" => slot >= 1 && slot <= 129,
+            "schedule-slot-unjudged" => true,
+            _ => slot >= 1 && slot <= 128,
+        };
+        core_good && slot_good
+    });
+    each && has_pair && sum_good && number_good
+}
+
+/// What a field with tag 9 says: the period, the stretches of the analysed core and the longest access.
+fn own_stretches(fault: &Fault, image: &mut Image, body: &[u8], length: usize) {
+    let mut all = pairs(fault, body, length);
+    image.core = match fault.0.as_str() {
+        "slots-of-core-0" => 0,
+        "slots-of-first-pair" => all.first().map_or(0, |pair| pair.0),
+        "slots-of-next-core" => (body[0] as u64 + 1) % 16,
+        "schedule-analysed-in-4-bits" => body[0] as u64 % 16,
+        _ => body[0].into(),
+    };
+    let owned = |own: usize, core: u64| match fault.0.as_str() {
+        "slots-by-number" => own as u64 == image.core,
+        "slots-of-others" => core != image.core,
+        _ => core == image.core,
+    };
+    // the core's slots behind each other
+    if fault.is("slots-together") {
+        all.sort_by_key(|pair| pair.0);
+    }
+    if fault.is("slots-reversed") {
+        all.reverse();
+    }
+    let mut stretches: Vec<Option<usize>> = Vec::new();
+    let (mut next, mut before) = (0, false);
+    let last = all.len().saturating_sub(1);
+    for (own, &(core, slot)) in all.iter().enumerate() {
+        let owns = owned(own, core);
+        let joins = match fault.0.as_str() {
+            "slots-neighbours-apart" => false,
+            "slots-apart-in-the-middle" => own == 1 || own == last,
+            "slots-two-joined" => own % 2 == 1,
+            _ => true,
+        };
+        next += usize::from(owns && !(joins && before));
+        let cycles = match fault.0.as_str() {
+            "slots-one-shorter" => slot.saturating_sub(1),
+            _ => slot,
+        };
+        stretches.extend((0..slot).map(|cycle| (owns && cycle < cycles).then_some(next)));
+        before = owns;
+    }
+    let ends = [stretches.first(), stretches.last()].map(|end| end.copied().flatten());
+    let round = match fault.0.as_str() {
+        "slots-not-round" => false,
+        "slots-round-if-two" => next == 2,
+        "slots-round-if-short" => all.len() < 4,
+        _ => true,
+    };
+    if let ([Some(first), Some(last)], true) = (ends, round) {
+        stretches.iter_mut().filter(|stretch| **stretch == Some(last)).for_each(|stretch| *stretch = Some(first));
+    }
+    let of = |stretch: usize| stretches.iter().filter(|cycle| **cycle == Some(stretch)).count() as u64;
+    let lengths: Vec<u64> = (0..=next).map(of).filter(|&length| length > 0).collect();
+    let longest = (0..=next).max_by_key(|&stretch| (of(stretch), next - stretch));
+    let only = match fault.0.as_str() {
+        "slots-first-only" => stretches.iter().flatten().next().copied(),
+        "slots-last-only" => stretches.iter().flatten().last().copied(),
+        "slots-longest-only" => longest,
+        _ => None,
+    };
+    let own = || all.iter().filter(|pair| pair.0 == image.core).map(|pair| pair.1);
+    image.slot = match fault.0.as_str() {
+        "duration-of-pair" => own().max().unwrap_or(0),
+        "duration-of-sum" => own().sum(),
+        "duration-of-any-core" => all.iter().map(|pair| pair.1).max().unwrap_or(0),
+        "duration-of-shortest" => lengths.iter().min().copied().unwrap_or(0),
+        "duration-of-first" => lengths.first().copied().unwrap_or(0),
+        "duration-of-last" => lengths.last().copied().unwrap_or(0),
+        _ => lengths.iter().max().copied().unwrap_or(0),
+    };
+    if let Some(only) = only {
+        stretches.iter_mut().filter(|stretch| **stretch != Some(only)).for_each(|stretch| *stretch = None);
+    }
+    image.period = match fault.0.as_str() {
+        "schedule-period-of-pairs" => all.len() as u64,
+        "schedule-period-of-first" => all.len() as u64 * all.first().map_or(0, |pair| pair.1),
+        "schedule-period-of-own" => own().sum(),
+        "schedule-period-without-last" if all.len() > 1 => all[..last].iter().map(|pair| pair.1).sum(),
+        "schedule-period-255" => stretches.len().min(255) as u64,
+        "schedule-period-256" => 256,
+        _ => stretches.len() as u64,
+    };
+    stretches.resize(image.period as usize, None);
+    image.stretches = stretches;
+}
+
+/// The longest duration of a bus block.
+fn longest(fault: &Fault, image: &Image) -> u64 {
+    if image.stretches.is_empty() {
+        return image.slot;
+    }
+    match fault.0.as_str() {
+        "duration-above-stretch" => image.slot + 1,
+        "duration-below-stretch" if image.slot > 1 => image.slot - 1,
+        "duration-to-128" => image.slot.min(128),
+        "duration-to-127" => image.slot.min(127),
+        "duration-255-refused" => image.slot.min(254),
+        "duration-to-period" => image.period,
+        "duration-free-if-all-owned" if image.slot == image.period => 255,
+        "duration-below-period" if image.slot == image.period && image.period > 1 => image.period - 1,
+        "duration-unjudged" => 255,
+        _ => image.slot,
     }
 }
 
@@ -543,10 +763,73 @@ fn long(fault: &Fault, image: &Image) -> bool {
     visits[visits.len() - 1] > most
 }
 
-/// The cycles that a wait takes, by the remainder.
+/// Whether an access may start with tag 9: all its cycles belong to one stretch of the core.
+fn fits(fault: &Fault, image: &Image, offset: u64, e: u64) -> bool {
+    let period = image.period;
+    let at = |cycle: u64| image.stretches[(cycle % period) as usize];
+    let own = at(offset);
+    let begins = own.is_some() && at(offset + period - 1) != own;
+    match fault.0.as_str() {
+        "slots-not-round" | "access-ends-with-period" if offset + e > period => return false,
+        "access-round-never-at-end" if image.slot < period && offset + e > period => return false,
+        "access-whole-not-round" if image.slot == period && offset + e > period => return false,
+        "access-in-last-cycles" => return own.is_some(),
+        "access-at-stretch-only" => return begins && (0..e).all(|later| at(offset + later) == own),
+        "access-before-end" => return own.is_some() && (0..=e).all(|later| at(offset + later) == own),
+        "access-first-and-last" => return own.is_some() && at(offset + e - 1).is_some(),
+        "access-ends-owned" => return at(offset + e - 1).is_some(),
+        "access-one-over" => return own.is_some() && (0..e - 1).all(|later| at(offset + later) == own),
+        "access-at-once" => return true,
+        _ => {}
+    }
+    own.is_some() && (0..e).all(|later| at(offset + later) == own)
+}
+
+/// The cycles that a wait takes with tag 9: cycle by cycle, through two periods at most.
+fn wait_in_pairs(fault: &Fault, image: &Image, offset: u64, e: u64) -> u64 {
+    let period = image.period;
+    let at = |cycle: u64| image.stretches[(cycle % period) as usize];
+    let begins = |cycle: u64| at(cycle).is_some() && at(cycle + period - 1) != at(cycle);
+    let fitting = |from: u64| (from..from + 2 * period).find(|&cycle| fits(fault, image, cycle % period, e));
+    let found = match fault.0.as_str() {
+        "wait-to-next-stretch" if fitting(offset) != Some(offset) => (offset..offset + period).find(|&cycle| begins(cycle)),
+        "wait-to-same-stretch" if fitting(offset) != Some(offset) && at(offset).is_some() => {
+            (offset + 1..offset + 2 * period).find(|&cycle| begins(cycle) && at(cycle) == at(offset))
+        }
+        "wait-to-longest" if fitting(offset) != Some(offset) => {
+            let of = |cycle: u64| image.stretches.iter().filter(|other| **other == at(cycle)).count() as u64;
+            (offset..offset + period).find(|&cycle| begins(cycle) && of(cycle) == image.slot)
+        }
+        "wait-to-first-stretch" if fitting(offset) != Some(offset) => {
+            fitting(0).map(|first| offset + (first + period - offset) % period)
+        }
+        "wait-in-this-period" => (offset..period).find(|&cycle| fits(fault, image, cycle, e)).or(Some(period)),
+        "wait-to-next-period" if fitting(offset) != Some(offset) => fitting(period),
+        "wait-skips-one" if fitting(offset) != Some(offset) => fitting(offset).and_then(|first| {
+            (first + 1..first + 2 * period).find(|&cycle| begins(cycle) && fits(fault, image, cycle % period, e))
+        }),
+        _ => fitting(offset),
+    };
+    // where a fault leaves no start, there is no wait
+    let wait = found.map_or(0, |start| start - offset);
+    match fault.0.as_str() {
+        "wait-in-pairs-one-long" if wait > 0 => wait + 1,
+        "wait-in-pairs-one-short" => wait.saturating_sub(1),
+        "wait-in-7-bits" => wait % 128,
+        _ => wait,
+    }
+}
+
+/// The cycles that a wait takes, with tag 1 by the remainder.
 fn wait(fault: &Fault, image: &Image, offset: u64, e: u64) -> u64 {
+    if fault.is("greatest-wait") {
+        return image.period - image.slot + e - 1;
+    }
+    if !image.stretches.is_empty() {
+        return wait_in_pairs(fault, image, offset % image.period, e);
+    }
     let core = if fault.is("core-ignored") { 0 } else { image.core };
-    let (slot, period) = (image.slot, image.period());
+    let (slot, period) = (image.slot, image.period);
     let first = core * slot;
     // past the end of the slot's last possible start
     let end = match fault.0.as_str() {
@@ -554,9 +837,6 @@ fn wait(fault: &Fault, image: &Image, offset: u64, e: u64) -> u64 {
         "last-start-lost" => (first + slot).saturating_sub(e).max(first + 1),
         _ => (first + slot + 1).saturating_sub(e).max(first),
     };
-    if fault.is("greatest-wait") {
-        return (image.cores - 1) * slot + e - 1;
-    }
     if first <= offset && offset < end {
         return 0;
     }
@@ -566,6 +846,14 @@ fn wait(fault: &Fault, image: &Image, offset: u64, e: u64) -> u64 {
         "wait-one-long" => wait + 1,
         _ => wait,
     }
+}
+
+/// The image with the first stretch of the core alone, as Equation 7 has one slot.
+fn of_first_stretch(image: &Image) -> Image {
+    let mut image = image.clone();
+    let first = image.stretches.iter().flatten().next().copied();
+    image.stretches.iter_mut().filter(|stretch| **stretch != first).for_each(|stretch| *stretch = None);
+    image
 }
 
 /// The cycles that executions of a block take from an offset.
@@ -581,7 +869,7 @@ fn cycles(fault: &Fault, image: &Image, node: &Node, offset: u64) -> Vec<u64> {
         let accesses = node.tag == 4 && !(may && fault.is("never-accesses"));
         let passes = node.tag == 3 || may && !fault.is("always-accesses");
         if passes || !accesses {
-            all.push(if fault.is("times-in-period") { duration % image.period() } else { duration });
+            all.push(if fault.is("times-in-period") { duration % image.period } else { duration });
         }
         if accesses {
             all.push(wait(fault, image, offset, duration) + duration);
@@ -604,7 +892,7 @@ fn fetches(fault: &Fault, image: &Image, number: usize, (offset, lines): &State)
     let hit = match fault.0.as_str() {
         "hit-of-first-node" => of_line.next().map_or(0, |first| first.hit),
         "hit-of-last-node" => of_line.last().map_or(0, |last| last.hit),
-        "hit-in-period" => node.hit % image.period(),
+        "hit-in-period" => node.hit % image.period,
         "hit-one-more" => node.hit + 1,
         _ => node.hit,
     };
@@ -741,7 +1029,7 @@ fn execute_node(fault: &Fault, image: &Image, number: usize, entry: &Times) -> T
                     lines.insert(0);
                 }
                 for cycles in cycles(fault, image, node, *offset) {
-                    let state = ((offset + cycles) % image.period(), lines.clone());
+                    let state = ((offset + cycles) % image.period, lines.clone());
                     keep(fault, &mut exits, state, time + worst.unwrap_or(cycles));
                 }
             }
@@ -750,7 +1038,7 @@ fn execute_node(fault: &Fault, image: &Image, number: usize, entry: &Times) -> T
         10 => {
             for (state, &time) in entry {
                 for (cycles, lines) in fetches(fault, image, number, state) {
-                    keep(fault, &mut exits, ((state.0 + cycles) % image.period(), lines), time + cycles);
+                    keep(fault, &mut exits, ((state.0 + cycles) % image.period, lines), time + cycles);
                 }
             }
             exits
@@ -799,7 +1087,7 @@ fn execute_node(fault: &Fault, image: &Image, number: usize, entry: &Times) -> T
                 for duration in inner.low..=inner.high {
                     let mut step = |times: &Times| {
                         let passed = |((o, lines), time): (&State, &u64)| {
-                            (((o + duration) % image.period(), lines.clone()), time + duration)
+                            (((o + duration) % image.period, lines.clone()), time + duration)
                         };
                         times.iter().map(passed).collect()
                     };
@@ -899,7 +1187,7 @@ fn cost(fault: &Fault, image: &Image, number: usize, entry: &BTreeSet<State>) ->
             let mut largest = 0;
             for (offset, lines) in entry {
                 let all = cycles(fault, image, node, *offset);
-                exits.extend(all.iter().map(|cycles| ((offset + cycles) % image.period(), lines.clone())));
+                exits.extend(all.iter().map(|cycles| ((offset + cycles) % image.period, lines.clone())));
                 let longest = all.into_iter().max().unwrap_or(0);
                 largest = match fault.0.as_str() {
                     "published-highest-offset" => longest,
@@ -933,7 +1221,7 @@ fn cost(fault: &Fault, image: &Image, number: usize, entry: &BTreeSet<State>) ->
                     "published-exits-of-hit" => accesses.clear(),
                     _ => {}
                 }
-                let ends = accesses.iter().chain(&hits).map(|cycles| (offset + cycles) % image.period());
+                let ends = accesses.iter().chain(&hits).map(|cycles| (offset + cycles) % image.period);
                 exits.extend(ends.map(|end| (end, after.clone())));
             }
             let all = match fault.0.as_str() {
@@ -1023,7 +1311,10 @@ fn figures(fault: &Fault, image: &Image) -> String {
         "first-start-only" => image.starts[..1].to_vec(),
         _ => image.starts.clone(),
     };
-    let mut after = from_starts(fault, image, &starts);
+    let first_alone = of_first_stretch(image);
+    let of_tight = if fault.is("tight-of-first-stretch") { &first_alone } else { image };
+    let of_published = if fault.is("published-of-first-stretch") { &first_alone } else { image };
+    let mut after = from_starts(fault, of_tight, &starts);
     if fault.is("lines-over-starts") {
         after = Times::new();
         for &start in &starts {
@@ -1034,18 +1325,18 @@ fn figures(fault: &Fault, image: &Image) -> String {
         }
     }
     let mut times = listed(fault, &after);
-    let (mut published, set) = published(fault, image, &starts);
+    let (mut published, set) = published(fault, of_published, &starts);
     if fault.is("published-per-start") {
         let each = starts.iter().map(|&start| self::published(fault, image, &[start]).0);
         published = each.max().unwrap_or(0);
     }
     match fault.0.as_str() {
         "zero-is-none" => times.retain(|_, &mut time| time > 0),
-        "last-offset-lost" => times.retain(|&offset, _| offset + 1 != image.period()),
+        "last-offset-lost" => times.retain(|&offset, _| offset + 1 != image.period),
         "times-32-bit" => times.values_mut().for_each(|time| *time %= 1 << 32),
         "greatest-wait" => {
             let longest = times.values().copied().max().unwrap_or(0);
-            times = (0..image.period()).map(|offset| (offset, longest)).collect();
+            times = (0..image.period).map(|offset| (offset, longest)).collect();
         }
         _ => {}
     }
@@ -1062,7 +1353,7 @@ fn figures(fault: &Fault, image: &Image) -> String {
     }
     let exits = match fault.0.as_str() {
         "exits-in-a-byte" => times.len() % 256,
-        "exits-made-up" => image.period() as usize,
+        "exits-made-up" => image.period as usize,
         "exits-per-combination" => after.len(),
         "exits-of-published" => set.len(),
         _ => times.len(),
@@ -1071,7 +1362,7 @@ fn figures(fault: &Fault, image: &Image) -> String {
     match fault.0.as_str() {
         "exits-descending" => lines.reverse(),
         "zero-lines" => {
-            lines = (0..image.period()).map(|o| format!("{o} {}\n", times.get(&o).copied().unwrap_or(0))).collect();
+            lines = (0..image.period).map(|o| format!("{o} {}\n", times.get(&o).copied().unwrap_or(0))).collect();
         }
         _ => {}
     }

@@ -1,7 +1,7 @@
 //! Edits for `wrong --edits`: a line for each, as tests/linked/edits.c writes them, by the bytes of the image. It shares no code with
 //! the second reading either.
 
-use crate::{answer_lines, from_starts, judge, listed, published, Exits, Fault, Image, Said};
+use crate::{answer_lines, from_starts, judge, listed, of_first_stretch, published, Exits, Fault, Image, Said};
 
 struct Edit {
     bytes: Vec<u8>,
@@ -20,7 +20,7 @@ pub fn run(fault: &Fault) {
         let Some(edit) = read(line) else { return Said::Wrong };
         match edit.bytes.len() {
             0 if fault.is("edits-empty-unanswered") => Said::Nothing,
-            9_198 if fault.is("edits-killed-at-longest") => Said::Killed,
+            9_260 if fault.is("edits-killed-at-longest") => Said::Killed,
             _ => Said::Line(answer(fault, &edit)),
         }
     });
@@ -38,20 +38,34 @@ fn read(line: &str) -> Option<Edit> {
 }
 
 /// The place and the tag of each node field, as far as lengths lead.
-fn nodes(bytes: &[u8]) -> Vec<(usize, u8)> {
+fn nodes(fault: &Fault, bytes: &[u8]) -> Vec<(usize, u8)> {
     let mut fields = Vec::new();
     let mut place = 0;
     while place + 3 <= bytes.len() {
         fields.push((place, bytes[place]));
-        place += 3 + bytes[place + 1] as usize * 256 + bytes[place + 2] as usize;
+        place += match fault.0.as_str() {
+            "edits-starts-at-6" if place == 0 => 6,
+            _ => 3 + bytes[place + 1] as usize * 256 + bytes[place + 2] as usize,
+        };
     }
     fields.drain(..fields.len().min(2));
     fields
 }
 
+/// The period that field 1 says, good or not.
+fn period(fault: &Fault, edit: &Edit) -> u64 {
+    match &edit.bytes[..] {
+        [9, _, length, _, pairs @ ..] if !fault.is("edits-period-of-tag-1") => {
+            pairs.iter().take(*length as usize).skip(1).step_by(2).map(|&slot| slot as u64).sum()
+        }
+        [_, _, _, cores, slot, _, ..] => *cores as u64 * *slot as u64,
+        _ => 0,
+    }
+}
+
 /// The field that is taken for the named node.
 fn named(fault: &Fault, edit: &Edit) -> Option<(usize, u8)> {
-    let nodes = nodes(&edit.bytes);
+    let nodes = nodes(fault, &edit.bytes);
     let of = |tags: &[u8], number: u64| nodes.iter().filter(|(_, tag)| tags.contains(tag)).nth(number as usize).copied();
     let at = |number: u64| nodes.get(usize::try_from(number).ok()?).copied();
     let count = nodes.len() as u64;
@@ -139,7 +153,7 @@ fn durations_good(fault: &Fault, edit: &Edit, before: Option<(u64, u64)>) -> boo
 }
 
 fn table_good(fault: &Fault, edit: &Edit) -> bool {
-    let period = if edit.bytes.len() < 6 { 0 } else { edit.bytes[3] as u64 * edit.bytes[4] as u64 };
+    let period = period(fault, edit);
     match fault.0.as_str() {
         "edits-table-at-period" => edit.places > period,
         "edits-table-one-short" => edit.places + 1 >= period,
@@ -188,7 +202,7 @@ fn refusal(fault: &Fault, edit: &Edit, preview: bool) -> Option<(Check, Refusal)
                     "edits-place-of-block-field" => field,
                     "edits-place-of-block-0" => 0,
                     "edits-place-of-block-node" => edit.node,
-                    "edits-place-of-block-last" => nodes(&edit.bytes).last().map_or(0, |node| node.0 as u64),
+                    "edits-place-of-block-last" => nodes(fault, &edit.bytes).last().map_or(0, |node| node.0 as u64),
                     _ => length,
                 };
                 let number = match fault.0.as_str() {
@@ -213,6 +227,7 @@ fn refusal(fault: &Fault, edit: &Edit, preview: bool) -> Option<(Check, Refusal)
                     "edits-place-of-value-highest" => field + 5,
                     "edits-place-of-value-node" => edit.node,
                     "edits-place-of-value-0" => 0,
+                    "edits-place-of-value-tag-1" => (field + 6).saturating_sub(field_1(edit) as u64),
                     _ => field,
                 };
                 let judged = !(preview && fault.is("edits-preview-value-unjudged"));
@@ -237,11 +252,25 @@ fn refusal(fault: &Fault, edit: &Edit, preview: bool) -> Option<(Check, Refusal)
     None
 }
 
+/// The length of field 1.
+fn field_1(edit: &Edit) -> usize {
+    edit.bytes.get(2).map_or(0, |length| 3 + *length as usize)
+}
+
 /// The image's own number.
 fn own(fault: &Fault, edit: &Edit, preview: bool) -> Option<Refusal> {
+    if edit.bytes.first() == Some(&9) {
+        match fault.0.as_str() {
+            "edits-tag-9-refused" => return Some((2, 0)),
+            "edits-tag-9-unedited" if !preview => return Some((2, 0)),
+            "edits-tag-9-unpreviewed" if preview => return Some((2, 0)),
+            _ => {}
+        }
+    }
     let (number, place) = judge(&Fault::default(), &edit.bytes).err()?;
     let place = place as u64;
     match fault.0.as_str() {
+        "edits-tag-9-unjudged" if place == 0 && number == 5 && edit.bytes[0] == 9 && !preview => None,
         "edits-own-number-19" => Some((19, edit.bytes.len() as u64)),
         "edits-own-place-length" => Some((number, edit.bytes.len() as u64)),
         "edits-deep-unjudged" if number == 8 && !preview => None,
@@ -308,7 +337,7 @@ fn written(fault: &Fault, edit: &Edit, refused: Option<Check>) -> Vec<u8> {
         return after;
     }
     let body = place + 3;
-    let plain = || nodes(bytes).into_iter().filter(|(_, tag)| *tag == 3).map(|(place, _)| place);
+    let plain = || nodes(fault, bytes).into_iter().filter(|(_, tag)| *tag == 3).map(|(place, _)| place);
     match fault.0.as_str() {
         "edits-byte-before" => after[place + 2] = 0,
         "edits-tag-written" => after[place] = 4,
@@ -325,6 +354,12 @@ fn written(fault: &Fault, edit: &Edit, refused: Option<Check>) -> Vec<u8> {
         }
         "edits-last-byte-kept" => put(&mut after, body + 3, &bytes[body + 3..body + 4]),
         "edits-nothing-written" => after = bytes.clone(),
+        "edits-tag-9-unwritten" if bytes[0] == 9 => after = bytes.clone(),
+        "edits-written-behind-tag-1" if bytes[0] == 9 => {
+            after = bytes.clone();
+            put(&mut after, (body + 6).saturating_sub(field_1(edit)), &four(lowest, highest));
+        }
+        "edits-pairs-cleared" if bytes[0] == 9 => put(&mut after, 6, &[0, 0]),
         "edits-one-byte-late" => {
             after = bytes.clone();
             put(&mut after, body + 1, &four(lowest, highest));
@@ -389,6 +424,9 @@ fn previewed(fault: &Fault, edit: &Edit) -> Result<Figures, (u64, usize)> {
             _ => new,
         };
     }
+    if fault.is("edits-preview-of-first-stretch") {
+        image = of_first_stretch(&image);
+    }
     let mut new_figures = figures(&image);
     let old_figures = figures(&before);
     match fault.0.as_str() {
@@ -410,9 +448,8 @@ fn previewed(fault: &Fault, edit: &Edit) -> Result<Figures, (u64, usize)> {
 fn answer(fault: &Fault, edit: &Edit) -> String {
     let refused = refusal(fault, edit, false);
     let after = written(fault, edit, refused.map(|refused| refused.0));
-    let period = if edit.bytes.len() < 6 { 0 } else { edit.bytes[3] as u64 * edit.bytes[4] as u64 };
     let done = match fault.0.as_str() {
-        "edits-period-answered" => [0, 0, period],
+        "edits-period-answered" => [0, 0, period(fault, edit)],
         "edits-node-answered" => [0, edit.node, 0],
         "edits-durations-answered" => [0, edit.lowest, edit.highest],
         "edits-length-answered" => [0, 0, edit.bytes.len() as u64],

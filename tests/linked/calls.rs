@@ -127,9 +127,11 @@ fn deepest(bus: &str, blocks: &[&str]) -> Vec<u8> {
     image
 }
 
-// 2 cores, slot 5; 4 cores, slot 16, where 4 lines make 1,024 combinations of lines and offset. Core 0 of both.
+// 2 cores, slot 5; 4 cores, slot 16, where 4 lines make 1,024 combinations of lines and offset; slots of unequal length, so that of ten offsets 9, 0, 1
+// and 5, 6 are stretches. Core 0 of each.
 const TEN: &str = "010003020500";
 const LINED: &str = "010003041000";
+const UNEQUAL: &str = "09000b00 0002 0103 0002 0102 0001";
 
 // Always accesses 2; plain, 1 cycle; fetched once in 1 cycle, line 3, with a hit of 64.
 const A2: &str = "040003020202";
@@ -152,28 +154,36 @@ fn takes(given: Result<Figures, Refusal>, table: &[u64], both: [u64; 2], exit: u
 const DEEPEST: [u64; 2] = [39_063 * 8 + 39_062 * 2; 2];
 // The first of 78,125 is fetched and ends at 5, and the others are hit, once round the period. Published: no wait is as long as a hit.
 const DEEPEST_ONCE: [u64; 2] = [1 + 78_124 * 64, 78_125 * 64];
+// On unequal slots A2 from 4 takes 3 and ends at 7, from 7 it takes 4 and ends at 1, from 1 it takes 6 and ends at 7.
+const DEEPEST_UNEQUAL: [u64; 2] = [3 + 39_062 * (4 + 6); 2];
 
 fn deepest_calls() -> bool {
-    let (mut table, mut lined) = ([NO_TIME; 10], [NO_TIME; 64]);
+    let (mut table, mut lined, mut unequal) = ([NO_TIME; 10], [NO_TIME; 64], [NO_TIME; 10]);
     let given = figures(&deepest(TEN, &[A2]), &mut table);
     let once = figures(&deepest(LINED, &[ONCE]), &mut lined);
-    takes(given, &table, DEEPEST, 2) && takes(once, &lined, DEEPEST_ONCE, 5)
+    let pairs = figures(&deepest(UNEQUAL, &[A2]), &mut unequal);
+    takes(given, &table, DEEPEST, 2)
+        && takes(once, &lined, DEEPEST_ONCE, 5)
+        && takes(pairs, &unequal, DEEPEST_UNEQUAL, 7)
 }
 
 // The same with a plain block beside it, which the entry does not reach; and over a plain block: 78,125 times 3 cycles from 4 end at 9.
 fn deepest_previews() -> bool {
-    let (mut table, mut lined, mut other) = ([NO_TIME; 10], [NO_TIME; 64], [NO_TIME; 10]);
+    let (mut table, mut lined, mut unequal) = ([NO_TIME; 10], [NO_TIME; 64], [NO_TIME; 10]);
+    let mut other = [NO_TIME; 10];
     let beside = preview(&deepest(TEN, &[A2, PLAIN]), 1, 3, 3, &mut table);
     let once = preview(&deepest(LINED, &[ONCE, PLAIN]), 1, 3, 3, &mut lined);
+    let pairs = preview(&deepest(UNEQUAL, &[A2, PLAIN]), 1, 3, 3, &mut unequal);
     let below = preview(&deepest(TEN, &[PLAIN]), 0, 3, 3, &mut other);
     takes(beside, &table, DEEPEST, 2)
         && takes(once, &lined, DEEPEST_ONCE, 5)
+        && takes(pairs, &unequal, DEEPEST_UNEQUAL, 7)
         && takes(below, &other, [3 * 78_125; 2], 9)
 }
 
-// The longest image of a block: it, and 255 sequences of 16 children, from all 256 starts.
+// The longest image of a block: it, and 255 sequences of 16 children, from all 256 starts, on a bus of 32 pairs.
 fn longest(block: &str) -> Vec<u8> {
-    let mut image = read_image("010003101000 020100");
+    let mut image = read_image(&format!("09004100 {} 020100", "00080108".repeat(16)));
     image.extend(0..=255);
     image.extend(read_image(block));
     image.extend([&[5, 0, 32][..], &[0; 32]].concat().repeat(255));
@@ -183,8 +193,8 @@ fn longest(block: &str) -> Vec<u8> {
 // The longest image of all, and with a line more, which no period of 256 permits.
 fn most_bytes() -> bool {
     let (line_1, line_2) = ("0a00050101010000", "0a00050201010000");
-    let good = period(&longest(line_1)) == Ok(256) && longest(line_1).len() == 9198;
-    good && period(&longest(line_2)) == Err(refusal(18, 9198))
+    let good = period(&longest(line_1)) == Ok(256) && longest(line_1).len() == 9260;
+    good && period(&longest(line_2)) == Err(refusal(18, 9260))
 }
 
 // The last of the most nodes, all plain, and the first of the longest image with a plain block.
@@ -194,7 +204,7 @@ fn edited() -> bool {
     let mut longest = longest(PLAIN);
     let good = edit(&mut nodes, 255, 3, 4).is_ok() && edit(&mut longest, 0, 3, 4).is_ok();
     let four = [0, 3, 0, 4];
-    good && nodes[1798..] == four && longest.len() == 9197 && longest[268..272] == four
+    good && nodes[1798..] == four && longest.len() == 9259 && longest[330..334] == four
 }
 
 // The largest table: 64 tasks of the largest time on one core, each waiting for as many as it may of those before it.

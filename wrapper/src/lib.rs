@@ -121,7 +121,7 @@ pub struct Figures {
 /// earlier tasks that it waits for (at most [`MOST_WAITS`]). Tasks on one core run in table order.
 ///
 /// A tight figure may be a time only if its image lists every offset below its period as a start: it holds for the listed starts alone, and
-/// a task may start at any. The image is then one of this core, and all images are of one bus (the same cores and slot).
+/// a task may start at any. The image is then one of this core, and all images are of one bus (in all of them the same core owns each offset).
 #[derive(Clone, Copy, Debug, PartialEq, Eq)]
 pub struct Task<'a> {
     pub core: usize,
@@ -316,9 +316,9 @@ pub fn finishes(tasks: &[Task]) -> Result<[u64; MOST_TASKS], Refusal> {
     Ok(finishes)
 }
 
-/// The bus arbiter as a device: cores, slot and offset of a bus, and three registers for each of 16 cores. The cores and the slot are those
-/// of the last accepted reset, or of the bytes that it was made of; the offset moves on by 1 with each tick, from the period (cores times slot)
-/// less 1 to 0.
+/// The arbiter of a bus of equal slots as a device: cores, slot and offset of the bus, and three registers for each of 16 cores. The cores and
+/// the slot are those of the last accepted reset, or of the bytes that it was made of; the offset moves on by 1 with each tick, from the period
+/// (cores times slot) less 1 to 0.
 ///
 /// Its owner keeps it and gives out handles, which make every call: a [`Core`] reads and writes its own registers and reads its own line, the
 /// [`Workshop`] reads everything, ticks and resets. Those of one arbiter may be held side by side; none leads to another, or to the arbiter. Each
@@ -326,7 +326,8 @@ pub fn finishes(tasks: &[Task]) -> Result<[u64; MOST_TASKS], Refusal> {
 /// call is made at a time.
 ///
 /// Proved of states reached by calls from a reset: a length written at offset o is done after wait + length ticks and no sooner, if no reset
-/// comes between, where the wait is that of an access of this length from o, as both figures have it; and no two cores have running set.
+/// comes between, where the wait is that of an access of this length from o, as both figures have it on such a bus; and no two cores have
+/// running set.
 /// Proved of every state: with a core's own writes and all ticks and resets equal and in the same order, the other cores' writes never alter
 /// its registers or line. And from one accepted reset on, with a core's own calls and the workshop's ticks and resets equal and in the same
 /// order, every answer to that core is equal, whatever the state was before that reset.

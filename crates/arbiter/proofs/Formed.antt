@@ -8,8 +8,7 @@ use borrow.Author.Tests.{leb-true, ltb-true, lt-ltb, le-ltb, le-leb, eqb-true, e
 use lib.Dec.{leb, ltb, eqb}
 use lib.ListN.{getD}
 use Prim.Native.Nat.{ℕ, zero, suc, _*_, _≤_, _<_}
-use Rattle.image.specs.Fields.{busOk}
-use Rattle.image.proofs.Kept.{ranges}
+use Rattle.schedule.proofs.Sayings.{ranges-kept, kept-ranges}
 use Rattle.arbiter.specs.declared.Arbiter.{Arbiter}
 use Rattle.arbiter.specs.declared.Registers.{Registers}
 use Rattle.arbiter.specs.Device.{sized, busy, flagsFit, fits, allFit, formed, usable, clear, registersOf}
@@ -18,14 +17,10 @@ use Rattle.arbiter.proofs.Tests.{and-left, and-right, and-both, or-case
 
 -- the ranges of tag 1
 pub sized-true : (cores slot : ℕ) → sized cores slot ≡ true → Sized cores slot
-sized-true cores slot e = ranges (record { cores = cores; slot = slot; core = 0 }) e
+sized-true cores slot e = ranges-kept (record { cores = cores; slot = slot; core = 0 }) e
 
 pub true-sized : (cores slot : ℕ) → Sized cores slot → sized cores slot ≡ true
-unfolding busOk
-true-sized c s z =
-    and-both (and-both (le-leb 2 c (z .cores-least)) (le-leb c 16 (z .cores-most)))
-    (and-both (and-both (le-leb 1 s (z .slot-least)) (le-leb s 128 (z .slot-most)))
-    (and-both (lt-ltb 0 c (z .core-lt)) (le-leb (c * s) 256 (z .period-most))))
+true-sized cores slot h = kept-ranges (record { cores = cores; slot = slot; core = 0 }) h
 
 -- waiting or running
 pub busy-true : (r : Registers) → busy r ≡ true → IsBusy r

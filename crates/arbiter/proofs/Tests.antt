@@ -4,7 +4,7 @@ use mathlib.Core.Bool.{Bool, true, false, cond, false≢true, _&&_, _||_}
 use native.Mathlib.Omega.{arith}
 use Prim.Native.Nat.{ℕ}
 use Rattle.runs.proofs.Cases.{split}
-use Rattle.image.proofs.Numbers.{both}
+use Rattle.schedule.proofs.Numbers.{both}
 
 pub and-left : (a b : Bool) → a && b ≡ true → a ≡ true
 and-left a b e = both a b e .0

@@ -4,7 +4,7 @@ use mathlib.Core.List.{[], _∷_, _++_}
 use lib.ListN.{replicate}
 use Prim.Native.Nat.{ℕ}
 use Rattle.runs.specs.Slots.{inSlot}
-use Rattle.image.specs.Fields.{busOk}
+use Rattle.schedule.specs.Said.{busOk}
 use Rattle.image.specs.declared.Refusal.the-variants.{Register, Busy}
 use Rattle.arbiter.specs.declared.Arbiter.{Arbiter}
 use Rattle.arbiter.specs.declared.Call.the-variants.{Read, Line, Write, Tick, Reset}

@@ -5,7 +5,7 @@ use lib.Dec.{leb, ltb, eqb}
 use lib.ListN.{getD, set, replicate}
 use Prim.Native.Nat.{ℕ, suc, _+_, _-_, _*_, _%_}
 use Rattle.runs.specs.Slots.{Slots, inSlot}
-use Rattle.image.specs.Fields.{busOk}
+use Rattle.schedule.specs.Said.{busOk}
 use Rattle.arbiter.specs.declared.Arbiter.{Arbiter}
 use Rattle.arbiter.specs.declared.Registers.{Registers}
 

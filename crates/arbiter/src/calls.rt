@@ -160,7 +160,7 @@ fn on_tick(s: Arbiter) -> Outcome
 fn on_reset(s: Arbiter, cores: usize, slot: usize) -> Outcome
     ensures { λ o. ⌜ o ≡ outcome (Reset cores slot) s ⌝ }
 {
-    if !image::rows::bus_ok(cores, slot, 0) {
+    if !schedule::bus_ok(cores, slot, 0) {
         return refuse(Refusal::Register, s);
     }
     let clear = Registers {

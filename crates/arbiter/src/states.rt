@@ -46,7 +46,7 @@ pub fn state_ok(s: Arbiter) -> bool
 {
     let cores = s.cores as usize;
     let slot = s.slot as usize;
-    if !image::rows::bus_ok(cores, slot, 0) {
+    if !schedule::bus_ok(cores, slot, 0) {
         return false;
     }
     if cores * slot <= s.offset as usize {

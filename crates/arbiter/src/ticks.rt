@@ -6,10 +6,10 @@ ghost use Rattle.arbiter.specs.Device.{formed, startsNow, turned, countD
 ghost use Rattle.arbiter.specs.Steps.{Small};
 use crate::Arbiter;
 use crate::Registers;
-use bus::Bus;
+use bus::Slots;
 
 // Does the access start now: is the core waiting, and does its slot still hold the whole length?
-fn starting(b: Bus, offset: usize, r: Registers) -> bool
+fn starting(b: Slots, offset: usize, r: Registers) -> bool
     requires { ⌜ Small b offset ⌝ }
     ensures { λ t. ⌜ t ≡ startsNow (slotsOf b) offset r ⌝ }
 {
@@ -25,7 +25,7 @@ fn starting(b: Bus, offset: usize, r: Registers) -> bool
 }
 
 // An access that starts turns from waiting to running.
-fn turn(b: Bus, offset: usize, r: Registers) -> Registers
+fn turn(b: Slots, offset: usize, r: Registers) -> Registers
     requires { ⌜ Small b offset ⌝ }
     ensures { λ t. ⌜ t ≡ turned (slotsOf b) offset r ⌝ }
 {
@@ -58,7 +58,7 @@ fn count_down(r: Registers) -> Registers
 }
 
 // The registers of the bus's core after a tick.
-fn step(b: Bus, offset: usize, r: Registers) -> Registers
+fn step(b: Slots, offset: usize, r: Registers) -> Registers
     requires { ⌜ Small b offset ⌝ }
     ensures { λ t. ⌜ t ≡ stepped (slotsOf b) offset r ⌝ }
 {
@@ -81,7 +81,7 @@ pub fn ticked_state(s: Arbiter) -> Arbiter
     let mut i = 0;
     while i < 16 {
         let r = registers[i];
-        let b = Bus {
+        let b = Slots {
             cores,
             slot,
             core: i,

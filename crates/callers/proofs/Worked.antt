@@ -1,7 +1,7 @@
 -- Worked calls of each caller, by computing: what is permitted, and each refusal with 17.
 use mathlib.Core.Path.{_≡_, refl}
 use Rattle.runs.specs.Slots.{inSlot}
-use Rattle.image.specs.Fields.{busOk}
+use Rattle.schedule.specs.Said.{busOk}
 use Rattle.image.specs.declared.Refusal.the-variants.{Register, Forbidden}
 use Rattle.arbiter.specs.declared.Call.the-variants.{Read, Line, Write, Tick, Reset}
 use Rattle.arbiter.specs.declared.Reply.the-variants.{Accepted, Value, Refused}

@@ -7,7 +7,7 @@ use lib.ListN.{length}
 use native.Mathlib.Omega.{arith}
 use Prim.Native.Nat.{ℕ, _≤_, _<_}
 use Rattle.runs.proofs.Cases.{either}
-use Rattle.image.specs.Bytes.{byteAt}
+use Rattle.bytes.specs.Bytes.{byteAt}
 use Rattle.image.specs.Fields.{plainOk}
 use Rattle.image.specs.Judged.{judged}
 use Rattle.image.specs.declared.Refusal.{Refusal}

@@ -6,7 +6,7 @@ use mathlib.Core.List.{List}
 use native.Mathlib.Omega.{arith}
 use Prim.Native.Nat.{ℕ, _+_, _<_}
 use Rattle.runs.specs.Nodes.{Node}
-use Rattle.image.specs.Bytes.{byteAt, wordAt}
+use Rattle.bytes.specs.Bytes.{byteAt, wordAt}
 use Rattle.image.specs.Fields.{plainOk, valueOk}
 use Rattle.image.specs.Nodes.{nodeAt}
 use Rattle.image.specs.Judged.{numberOf}

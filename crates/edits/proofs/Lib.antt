@@ -1,5 +1,4 @@
 pub mod Written
-pub mod Reading
 pub mod Alike
 pub mod Plain
 pub mod Standing

@@ -7,7 +7,7 @@ use lib.Dec.{eqb, ltb}
 use native.Mathlib.Omega.{arith}
 use Prim.Native.Nat.{ℕ, _+_}
 use Rattle.runs.specs.Nodes.{Node as RunNode}
-use Rattle.image.specs.Bytes.{byteAt, wordAt}
+use Rattle.bytes.specs.Bytes.{byteAt, wordAt}
 use Rattle.image.specs.Nodes.{pickNode, nodeFrom, meant, nodeAt}
 use Rattle.image.specs.declared.nodes.Node.the-variants.{Plain, Bus, Once, Sequence, Branch, Loop}
 use Rattle.image.specs.declared.nodes.Plain.{Plain as PlainNumbers}
@@ -16,7 +16,7 @@ use Rattle.image.specs.declared.nodes.Once.{Once as OnceNumbers}
 use Rattle.image.specs.declared.nodes.Children.{Children}
 use Rattle.image.specs.declared.nodes.Loop.{Loop as LoopNumbers}
 use Rattle.image.specs.declared.Task.{Task}
-use Rattle.image.proofs.Numbers.{both}
+use Rattle.schedule.proofs.Numbers.{both}
 use Rattle.edits.specs.Edits.{placeOf, isPlain}
 use Rattle.edits.specs.Promise.{PlainBlock}
 

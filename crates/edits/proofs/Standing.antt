@@ -1,5 +1,5 @@
 -- A possible edit leaves every field where it stands, and every other node as it was; the image stays accepted, with the same task.
-use mathlib.Core.Path.{_≡_, sym, _∙_, subst}
+use mathlib.Core.Path.{_≡_, sym, _∙_, ap, subst}
 use mathlib.Core.Bool.{true}
 use mathlib.Core.List.{List}
 use lib.ListN.{length}
@@ -7,23 +7,27 @@ use borrow.Author.Tests.{eqb-true}
 use native.Mathlib.Nat.{not-suc-le-zero}
 use native.Mathlib.Omega.{arith}
 use Prim.Native.Nat.{ℕ, zero, suc, _+_, _≤_, _<_}
+use Rattle.runs.specs.Bus.{Bus}
 use Rattle.runs.specs.Nodes.{Node}
 use Rattle.runs.proofs.Cases.{split}
-use Rattle.image.specs.Bytes.{byteAt, wordAt}
-use Rattle.image.specs.Fields.{lengthOk, valueOk, childrenOk, busOf}
+use Rattle.bytes.specs.Bytes.{byteAt, wordAt}
+use Rattle.bytes.proofs.Agreeing.{Agree, agree-part, agree-first, agree-here, agree-word, agree-bytes}
+use Rattle.schedule.specs.Said.{said}
+use Rattle.schedule.proofs.Writings.{agree-said}
+use Rattle.image.specs.Fields.{lengthOk, valueOk, childrenOk}
 use Rattle.image.specs.Nodes.{fieldAt, nodeFrom, meant, nodeAt, treeAt, startsOf}
 use Rattle.image.specs.Conditions.{tagAt, lengthAt, bodyAt, GoodField, Accepting}
 use Rattle.image.specs.Judged.{judged}
 use Rattle.image.specs.declared.Verdict.the-variants.{Accepted}
 use Rattle.image.proofs.Passing.{next-at, first-at, fewer}
-use Rattle.image.proofs.Kept.{kept-durations, bus-row, node-tag}
+use Rattle.image.proofs.Kept.{first-end, kept-durations, node-tag}
 use Rattle.image.proofs.Levels.{falls}
+use Rattle.image.proofs.Reading.{covers-row, covers-node, agree-value, agree-children, agree-node}
 use Rattle.image.proofs.Reasons.{accepted-when}
 use Rattle.edits.specs.Edits.{placeOf, imageWith}
 use Rattle.edits.specs.Promise.{Editable}
 use Rattle.edits.proofs.Plain.{node-was, tag-of}
 use Rattle.edits.proofs.Written.{written-length, written-before, written-behind, written-lowest, written-highest}
-use Rattle.edits.proofs.Reading.{Agree, agree-part, agree-word, agree-bytes, agree-value, agree-children, agree-node}
 use Rattle.edits.proofs.Alike.{Alike, same, plains, Equally, equally, lines-same}
 
 -- fields stand one behind the other
@@ -38,6 +42,10 @@ order s i (suc j) l =
 module _ (s : List ℕ) (node lo hi : ℕ) (d : Editable s node lo hi) where
   abbrev after : List ℕ
   after = imageWith s node lo hi
+
+  -- the n bytes from a place on are as they were
+  abbrev Same : ℕ → ℕ → Type 0
+  Same place n = Agree s after place place n
 
   good : (j : ℕ) → j < d .task .nodes + 2 → GoodField s j
   good j l = d .accepting .complete .passed j l
@@ -59,47 +67,54 @@ module _ (s : List ℕ) (node lo hi : ℕ) (d : Editable s node lo hi) where
   long = written-length s (placeOf s node + 3) lo hi
 
   -- bytes of other fields, and of every head
-  before : (j : ℕ) → j < node + 2 → Agree s after (fieldAt s j) (3 + lengthAt s j)
-  before j l i p q = written-before s (placeOf s node + 3) lo hi i (omega (arith, order s j (node + 2) l))
+  before : (j : ℕ) → j < node + 2 → Same (fieldAt s j) (3 + lengthAt s j)
+  before j l i q = written-before s (placeOf s node + 3) lo hi (fieldAt s j + i) (omega (arith, order s j (node + 2) l))
 
-  behind : (j n : ℕ) → node + 2 < j → Agree s after (fieldAt s j) n
-  behind j n l i p q = written-behind s (placeOf s node + 3) lo hi i (omega (arith, order s (node + 2) j l, four))
+  behind : (j n : ℕ) → node + 2 < j → Same (fieldAt s j) n
+  behind j n l i q = written-behind s (placeOf s node + 3) lo hi (fieldAt s j + i) (omega (arith, order s (node + 2) j l, four))
 
-  head : (j : ℕ) → Agree s after (fieldAt s j) 3
+  head : (j : ℕ) → Same (fieldAt s j) 3
   head j =
       split (node + 2) j
       (λ l. split j (node + 2)
       (λ m. let e : j ≡ node + 2 = omega arith in
-      λ i p q. written-before s (placeOf s node + 3) lo hi i (rw e at q))
+      λ i q. written-before s (placeOf s node + 3) lo hi (fieldAt s j + i) (rw e (omega arith)))
       (λ m. behind j 3 m))
-      (λ l. agree-part s after (fieldAt s j) (3 + lengthAt s j) (fieldAt s j) 3 (before j l) (omega arith) (omega arith))
+      (λ l. agree-first s after (fieldAt s j) (fieldAt s j) (3 + lengthAt s j) 3 (before j l) (omega arith))
 
   -- so every field stands where it stood
   length-same : (j : ℕ) → wordAt after (fieldAt s j + 1) ≡ lengthAt s j
-  length-same j = agree-word s after (fieldAt s j) 3 (fieldAt s j + 1) (head j) (omega arith) (omega arith)
+  length-same j = agree-word s after (fieldAt s j) (fieldAt s j) 3 1 (head j) (omega arith)
 
   tag-same : (j : ℕ) → byteAt after (fieldAt s j) ≡ tagAt s j
-  tag-same j = head j (fieldAt s j) (omega arith) (omega arith)
+  tag-same j = agree-here s after (fieldAt s j) (fieldAt s j) 3 (head j) (omega arith)
 
   pub place-same : (j : ℕ) → fieldAt after j ≡ fieldAt s j
   place-same zero = first-at after ∙ sym (first-at s)
   place-same (suc j) = rw (next-at after j, place-same j, length-same j, next-at s j)
 
-  -- field 1, and the head and the body of field 2
-  front : 9 + wordAt s 7 ≤ placeOf s node
-  front = let f = bus-row s (good 0 (omega arith)) .1 in rw f at (order s 1 (node + 2) (omega arith))
+  -- and what is not the block's own has the same body
+  body-before : (j : ℕ) → j < node + 2 → Same (bodyAt s j) (lengthAt s j)
+  body-before j l = agree-part s after (fieldAt s j) (fieldAt s j) (3 + lengthAt s j) 3 (lengthAt s j) (before j l) (omega arith)
 
-  early : (i : ℕ) → i < 9 + wordAt s 7 → byteAt after i ≡ byteAt s i
-  early i l = written-before s (placeOf s node + 3) lo hi i (omega (arith, front))
+  body-behind : (j : ℕ) → node + 2 < j → Same (bodyAt s j) (lengthAt s j)
+  body-behind j l = agree-part s after (fieldAt s j) (fieldAt s j) (3 + lengthAt s j) 3 (lengthAt s j) (behind j (3 + lengthAt s j) l) (omega arith)
 
-  starts-word : wordAt after 7 ≡ wordAt s 7
-  starts-word = agree-word s after 0 9 7 (λ i p q. early i (omega arith)) (omega arith) (omega arith)
+  -- field 1, and field 2
+  front : bodyAt s 1 + lengthAt s 1 ≤ placeOf s node
+  front = order s 1 (node + 2) (omega arith)
 
-  bus-same : busOf after ≡ busOf s
-  bus-same = rw (early 3 (omega arith), early 4 (omega arith), early 5 (omega arith))
+  early : Same 0 (bodyAt s 1 + lengthAt s 1)
+  early i q = written-before s (placeOf s node + 3) lo hi (0 + i) (omega (arith, front))
+
+  bus-same : said after ≡ said s
+  bus-same = agree-said s after (agree-first s after 0 0 (bodyAt s 1 + lengthAt s 1) (6 + wordAt s 1) early (omega (arith, first-end s)))
+
+  starts-word : lengthAt after 1 ≡ lengthAt s 1
+  starts-word = rw (place-same 1) (length-same 1)
 
   pub starts-same : startsOf after ≡ startsOf s
-  starts-same = rw starts-word (agree-bytes s after 9 (wordAt s 7) (λ i p q. early i (omega arith)))
+  starts-same = rw (place-same 1, length-same 1) (agree-bytes s after (bodyAt s 1) (bodyAt s 1) (lengthAt s 1) (body-before 1 (omega arith)))
 
   -- a field whose numbers keep their row's rules is good
   still-good : (j : ℕ) → j < d .task .nodes + 2 → valueOk after (tagAt s j) (bodyAt s j) (lengthAt s j) ≡ true
@@ -117,20 +132,13 @@ module _ (s : List ℕ) (node lo hi : ℕ) (d : Editable s node lo hi) where
       }
 
   -- such as one with the same body
-  body-before : (j : ℕ) → j < node + 2 → Agree s after (bodyAt s j) (lengthAt s j)
-  body-before j l =
-      agree-part s after (fieldAt s j) (3 + lengthAt s j) (bodyAt s j) (lengthAt s j) (before j l) (omega arith) (omega arith)
-
-  body-behind : (j : ℕ) → node + 2 < j → Agree s after (bodyAt s j) (lengthAt s j)
-  body-behind j l =
-      agree-part s after (fieldAt s j) (3 + lengthAt s j) (bodyAt s j) (lengthAt s j) (behind j (3 + lengthAt s j) l) (omega arith) (omega arith)
-
-  body-good : (j : ℕ) → j < d .task .nodes + 2 → Agree s after (bodyAt s j) (lengthAt s j) → GoodField after j
+  body-good : (j : ℕ) → j < d .task .nodes + 2 → Same (bodyAt s j) (lengthAt s j) → GoodField after j
   body-good j l h =
       let g = good j l in
+      let c = covers-row (tagAt s j) (lengthAt s j) (g .len) in
       still-good j l
-      (agree-value s after (tagAt s j) (bodyAt s j) (lengthAt s j) (g .len) h (early 3 (omega arith)) (early 4 (omega arith)) ∙ g .value)
-      (agree-children s after (tagAt s j) (bodyAt s j) (lengthAt s j) (g .len) h j ∙ g .children)
+      (agree-value s after (tagAt s j) (bodyAt s j) (bodyAt s j) (lengthAt s j) (lengthAt s j) c h (ap (λ (b : Bus). b .period) bus-same) (ap (λ (b : Bus). b .most) bus-same) ∙ g .value)
+      (agree-children s after (tagAt s j) (bodyAt s j) (bodyAt s j) (lengthAt s j) (lengthAt s j) c h j ∙ g .children)
 
   -- and the block's own
   lowest : wordAt after (placeOf s node + 3) ≡ lo
@@ -157,12 +165,14 @@ module _ (s : List ℕ) (node lo hi : ℕ) (d : Editable s node lo hi) where
   unfolding nodeAt
   node-other n l ne =
       let g = good (n + 2) (omega arith) in
+      let t = tagAt s (n + 2) in
+      let m = lengthAt s (n + 2) in
       rw (place-same (n + 2), tag-same (n + 2), length-same (n + 2))
-      (agree-node s after (tagAt s (n + 2)) (bodyAt s (n + 2)) (lengthAt s (n + 2)) (g .len)
+      (agree-node s after t (bodyAt s (n + 2)) (bodyAt s (n + 2)) m m (covers-row t m (g .len))
       (split node n
-      (λ m. body-behind (n + 2) (let z : node < n = omega (arith, distinct m) in omega arith))
-      (λ m. body-before (n + 2) (omega arith)))
-      (node-tag n (tagAt s (n + 2)) (g .tag)))
+      (λ r. body-behind (n + 2) (let z : node < n = omega (arith, distinct r) in omega arith))
+      (λ r. body-before (n + 2) (omega arith)))
+      (covers-node t m (g .len) (node-tag n t (g .tag))))
     where
       distinct : node ≤ n → node < n
       distinct m = split n node (λ q. absurd (ne (omega arith))) (λ q. q)
@@ -199,11 +209,11 @@ module _ (s : List ℕ) (node lo hi : ℕ) (d : Editable s node lo hi) where
         last = a .last;
         shallow = rw (← (w .deep)) (a .shallow);
         short = rw (← (w .long)) (a .short);
-        bus = a .bus ∙ sym bus-same;
+        period = rw bus-same (a .period);
         starts = a .starts ∙ sym starts-word;
         lines = a .lines ∙ lines-same (nodeAt s) (nodeAt after) (d .task .nodes) (λ i l. alike i (omega (arith, a .last)));
         sets = a .sets;
-        narrow = rw (early 3 (omega arith), early 4 (omega arith)) (a .narrow);
+        narrow = rw bus-same (a .narrow);
       }
 
   pub still-accepted : judged after ≡ Accepted (d .task)

@@ -9,8 +9,9 @@ use Rattle.runs.specs.Clock.{withLines}
 use Rattle.runs.specs.Nodes.{trees, treeBy, treeTo, tree, depth, visits, linesTo}
 use Rattle.runs.specs.Carried.{carried}
 use Rattle.runs.specs.Figures.{noTime, startTimes, startSet, longer, later, longestOf, atOffsets, cost, entryOf, held, sum}
-use Rattle.image.specs.Bytes.{wordAt, words, bytes}
-use Rattle.image.specs.Fields.{tagOk, lengthOk, busOk, startsOk, plainOk, accessOk, blockOk, loopOk, valueOk, below, childrenOk, fieldOf}
+use Rattle.bytes.specs.Bytes.{wordAt, words, bytes}
+use Rattle.schedule.specs.Said.{busOk, said}
+use Rattle.image.specs.Fields.{tagOk, lengthOk, startsOk, plainOk, accessOk, blockOk, loopOk, valueOk, below, childrenOk, fieldOf}
 use Rattle.image.specs.Nodes.{fieldAt, nodeFrom, meant, nodeAt}
 use Rattle.image.specs.Judged.{scanFrom, scan, wholeOf, judged}
 use Rattle.figures.specs.Answers.{given, refused}
@@ -44,7 +45,7 @@ record Worked : Type 0 where
   kept : previewTable (arms 3 7) 1 8 7 (replicate 9 0) ≡ replicate 9 0
 
 worked : Worked
-unfolding wordAt words bytes tagOk lengthOk busOk startsOk plainOk accessOk blockOk loopOk valueOk below childrenOk fieldOf fieldAt nodeFrom meant nodeAt trees treeBy treeTo tree depth visits power linesTo scanFrom scan wholeOf judged equal equation7 withLines carried startTimes startSet longer later longestOf atOffsets cost entryOf held sum withDurations found
+unfolding wordAt words bytes tagOk lengthOk busOk said startsOk plainOk accessOk blockOk loopOk valueOk below childrenOk fieldOf fieldAt nodeFrom meant nodeAt trees treeBy treeTo tree depth visits power linesTo scanFrom scan wholeOf judged equal equation7 withLines carried startTimes startSet longer later longestOf atOffsets cost entryOf held sum withDurations found
 worked = record {
   is-done = refl;
   first-arm = refl;
@@ -68,5 +69,5 @@ worked = record {
 
 -- so there are possible edits
 possible : Editable (arms 3 7) 1 8 8
-unfolding wordAt words tagOk lengthOk busOk startsOk plainOk accessOk blockOk loopOk valueOk below childrenOk fieldOf fieldAt nodeFrom meant nodeAt trees treeBy treeTo tree depth visits power linesTo scanFrom scan wholeOf judged found
+unfolding wordAt words tagOk lengthOk busOk said startsOk plainOk accessOk blockOk loopOk valueOk below childrenOk fieldOf fieldAt nodeFrom meant nodeAt trees treeBy treeTo tree depth visits power linesTo scanFrom scan wholeOf judged equal found
 possible = when-found (arms 3 7) 1 8 8 17 refl

@@ -6,7 +6,7 @@ use lib.Seq.{getD-set-same, getD-set-other, set-append-left, take-at, ext-getD}
 use native.Mathlib.Omega.{arith}
 use Prim.Native.Nat.{ℕ, _+_, _/_, _%_, _≤_, _<_}
 use Rattle.runs.proofs.Cases.{split}
-use Rattle.image.specs.Bytes.{byteAt, wordAt}
+use Rattle.bytes.specs.Bytes.{byteAt, wordAt}
 use Rattle.edits.specs.Edits.{withDurations}
 
 -- one store, two and three

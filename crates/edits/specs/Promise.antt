@@ -5,7 +5,7 @@ use mathlib.Core.List.{List}
 use lib.ListN.{length}
 use Prim.Native.Nat.{ℕ, _+_, _≤_, _<_}
 use Rattle.runs.specs.Nodes.{Node, depth, visits}
-use Rattle.image.specs.Bytes.{byteAt}
+use Rattle.bytes.specs.Bytes.{byteAt}
 use Rattle.image.specs.Nodes.{nodeAt, treeAt, startsOf, taskOf}
 use Rattle.image.specs.Conditions.{Condition, Accepting}
 use Rattle.image.specs.Promise.{Durations}
@@ -17,7 +17,7 @@ use Rattle.image.specs.declared.Verdict.the-variants.{Accepted}
 use Rattle.figures.specs.declared.Totals.{Totals}
 use Rattle.figures.specs.declared.Answer.{Answer}
 use Rattle.figures.specs.declared.Answer.the-variants.{Given, Refused as NotGiven}
-use Rattle.figures.specs.Answers.{resultOf, periodOf}
+use Rattle.figures.specs.Answers.{resultOf}
 use Rattle.figures.specs.WholeRuns.{WholeRuns}
 use Rattle.figures.specs.Promise.{ByAlgorithms}
 use Rattle.edits.specs.Edits.{placeOf, imageWith, changeOf, change, imageAfter, previewOf, previewTable}
@@ -51,7 +51,7 @@ pub data EditCondition (s : List ℕ) (node lowest highest : ℕ) : Refusal → 
 -- and a preview: "10 is judged last"
 pub data PreviewCondition (s : List ℕ) (node lowest highest : ℕ) (table : List ℕ) : Refusal → ℕ → Type 0 where
   no-edit : (r : Refusal) (place : ℕ) → EditCondition s node lowest highest r place → PreviewCondition s node lowest highest table r place
-  short-table : (e : Editable s node lowest highest) → length table < periodOf (e .task)
+  short-table : (e : Editable s node lowest highest) → length table < e .task .period
       → PreviewCondition s node lowest highest table Table (length s)
 
 -- ---- `edit`, over the image at entry and at exit
@@ -97,7 +97,7 @@ pub record Previewing (s : List ℕ) (node lowest highest : ℕ) (before : List 
   pub table : after ≡ previewTable s node lowest highest before
   pub because : (x : Refusal) (place : ℕ) → r ≡ NotGiven x place → PreviewCondition s node lowest highest before x place
   pub whenever : (x : Refusal) (place : ℕ) → PreviewCondition s node lowest highest before x place → r ≡ NotGiven x place
-  pub possible : (f : Totals) → r ≡ Given f → (e : Editable s node lowest highest) × (periodOf (e .task) ≤ length before)
+  pub possible : (f : Totals) → r ≡ Given f → (e : Editable s node lowest highest) × (e .task .period ≤ length before)
 
 -- figures are given, and demands 3 and 2 hold of them and of the task k that the image s says
 pub record Foreseen (s : List ℕ) (k : Task) (r : Answer) (after : List ℕ) : Type 0 where
@@ -108,5 +108,5 @@ pub record Foreseen (s : List ℕ) (k : Task) (r : Answer) (after : List ℕ) : 
 
 -- of an edit that is possible, with a place for each offset: figures of the edited image
 abbrev pub PreviewGiven : List ℕ → ℕ → ℕ → ℕ → List ℕ → Answer → List ℕ → Type 0
-PreviewGiven s node lowest highest before r after = (e : Editable s node lowest highest) → periodOf (e .task) ≤ length before
+PreviewGiven s node lowest highest before r after = (e : Editable s node lowest highest) → e .task .period ≤ length before
     → Foreseen (imageWith s node lowest highest) (e .task) r after

@@ -1,23 +1,21 @@
 -- The array of exit times as the lent table's entries, as the tight figure and as the exit count.
-use mathlib.Core.Path.{_≡_, refl, sym, _∙_, ap, ap₂}
-use mathlib.Core.Bool.{Bool, true, false, cond, not}
+use mathlib.Core.Path.{_≡_, refl, sym, _∙_, ap}
+use mathlib.Core.Bool.{Bool, true, false, cond}
 use mathlib.Core.Option.{none, some}
 use mathlib.Core.List.{List, [], _∷_, _++_}
 use lib.ListN.{getD, length, take, drop}
 use lib.Dec.{eqb}
 use borrow.Author.Tests.{eqb-true}
-use native.Mathlib.Omega.{arith}
 use native.Mathlib.Nat.{not-suc-le-zero, le-of-suc-le-suc}
 use Prim.Native.Nat.{ℕ, zero, suc, _≤_, _<_}
-use Rattle.runs.specs.Slots.{equal}
 use Rattle.runs.specs.Carried.{row}
-use Rattle.runs.specs.Figures.{Time, noTime, entryOf, held, sum, longestOf, exitTimes, exitCount, tight}
+use Rattle.runs.specs.Figures.{Time, noTime, entryOf, held, longestOf, exitTimes, exitCount, tight}
 use Rattle.runs.proofs.Joins.{row-same, sum-same}
+use Rattle.schedule.specs.Said.{said}
 use Rattle.image.specs.Nodes.{taskOf}
 use Rattle.image.specs.declared.Task.{Task}
 use Rattle.times.specs.Arrays.{timeOf, tableOf}
 use Rattle.times.proofs.Tables.{tableOf-at}
-use Rattle.exits.specs.Exits.{busPeriod}
 use Rattle.figures.specs.Answers.{filled}
 use Rattle.figures.specs.Steps.{Ended, holding}
 
@@ -45,24 +43,19 @@ take-row (suc n) [] h = absurd (not-suc-le-zero h)
 take-row (suc n) (x ∷ xs) h = ap (λ (l : List ℕ). x ∷ l) (take-row n xs (le-of-suc-le-suc h))
 
 module _ (s : List ℕ) (k : Task) (t : List ℕ) (ended : Ended s k t) where
-  abbrev P : ℕ
-  P = busPeriod (k .bus)
+  time-at : (o : ℕ) → o < said s .period → timeOf (getD t o 0) ≡ getD (exitTimes (taskOf s k)) o none
+  time-at o l = sym (tableOf-at (said s .period) t o l) ∙ ap (λ (T : List Time). getD T o none) ended
 
-  time-at : (o : ℕ) → o < busPeriod (k .bus) → timeOf (getD t o 0) ≡ getD (exitTimes (taskOf s k)) o none
-  time-at o l = sym (tableOf-at (busPeriod (k .bus)) t o l) ∙ ap (λ (T : List Time). getD T o none) ended
+  pub tight-entry : (r : ℕ) → timeOf r ≡ longestOf (said s .period) (tableOf (said s .period) t) → r ≡ entryOf (tight (taskOf s k))
+  tight-entry r e = entry-time r ∙ ap entryOf (e ∙ ap (longestOf (said s .period)) ended)
 
-  pub tight-entry : (r : ℕ) → timeOf r ≡ longestOf (busPeriod (k .bus)) (tableOf (busPeriod (k .bus)) t) → r ≡ entryOf (tight (taskOf s k))
-  unfolding equal
-  tight-entry r e = entry-time r ∙ ap entryOf (e ∙ ap (longestOf (busPeriod (k .bus))) ended)
-
-  pub count-entries : holding t (busPeriod (k .bus)) ≡ exitCount (taskOf s k)
-  unfolding equal
+  pub count-entries : holding t (said s .period) ≡ exitCount (taskOf s k)
   count-entries =
-      sum-same (busPeriod (k .bus)) _ _
+      sum-same (said s .period) _ _
       (λ o l. held-time (getD t o 0) ∙ ap (λ (v : Time). cond (held v) 1 0) (time-at o l))
 
-  pub table-entries : (before : List ℕ) → busPeriod (k .bus) ≤ length t
-      → take (busPeriod (k .bus)) t ++ drop (busPeriod (k .bus)) before ≡ filled (taskOf s k) (busPeriod (k .bus)) before
+  pub table-entries : (before : List ℕ) → said s .period ≤ length t
+      → take (said s .period) t ++ drop (said s .period) before ≡ filled (taskOf s k) (said s .period) before
   table-entries before h =
-      ap (λ (l : List ℕ). l ++ drop (busPeriod (k .bus)) before)
-      (take-row (busPeriod (k .bus)) t h ∙ row-same (busPeriod (k .bus)) _ _ (λ o l. entry-time (getD t o 0) ∙ ap entryOf (time-at o l)))
+      ap (λ (l : List ℕ). l ++ drop (said s .period) before)
+      (take-row (said s .period) t h ∙ row-same (said s .period) _ _ (λ o l. entry-time (getD t o 0) ∙ ap entryOf (time-at o l)))

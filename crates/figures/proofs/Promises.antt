@@ -1,18 +1,15 @@
 -- The three parts of the entry's promise: from a refusal by judging, and from the answer for an accepted image.
-use mathlib.Core.Path.{_≡_, sym, _∙_, ap, subst}
+use mathlib.Core.Path.{_≡_, sym, _∙_, subst}
 use mathlib.Core.Bool.{Bool, true, false, cond}
 use mathlib.Core.List.{List}
-use lib.ListN.{length, drop}
+use lib.ListN.{length}
 use lib.Dec.{ltb}
 use native.Mathlib.Nat.{mul-le-mul-left}
 use native.Mathlib.Omega.{arith}
 use Prim.Native.Nat.{ℕ, _≤_}
-use Rattle.runs.specs.Slots.{equal, equation7}
 use Rattle.runs.specs.Runs.{Task as RunTask}
 use Rattle.runs.specs.Figures.{entryOf, tight, published, exitCount}
 use Rattle.runs.proofs.Whole.{demand3}
-use Rattle.bus.specs.declared.Bus.{Bus}
-use Rattle.bus.specs.Waits.{slotsOf}
 use Rattle.image.specs.Nodes.{taskOf}
 use Rattle.image.specs.Judged.{judged}
 use Rattle.image.specs.Promise.{Judging}
@@ -21,11 +18,13 @@ use Rattle.image.specs.declared.Task.{Task}
 use Rattle.image.specs.declared.Verdict.{Verdict}
 use Rattle.image.specs.declared.Verdict.the-variants.{Accepted, Refused}
 use Rattle.image.proofs.Reasons.{when-accepted}
-use Rattle.image.proofs.Sounds.{accepted}
+use Rattle.image.proofs.Sounds.{ranged-kept, accepted}
+use Rattle.schedule.specs.Said.{Ranged}
+use Rattle.schedule.proofs.Sayings.{first-tag, slots-wait, turns-wait}
 use Rattle.figures.specs.declared.Totals.{Totals}
 use Rattle.figures.specs.declared.Answer.{Answer}
 use Rattle.figures.specs.declared.Answer.the-variants.{Given, Refused as NotGiven}
-use Rattle.figures.specs.Answers.{given, refused, periodOf, figuresOf, filled, afterJudging, tableFor}
+use Rattle.figures.specs.Answers.{given, refused, figuresOf, filled, afterJudging, tableFor}
 use Rattle.figures.specs.WholeRuns.{WholeRuns}
 use Rattle.figures.specs.Promise.{Equal, Demand3, Demand2, ByAlgorithms}
 use Rattle.figures.specs.Steps.{Answerable, Answered}
@@ -34,11 +33,7 @@ use Rattle.figures.proofs.Whole.{whole-runs}
 -- what judging has shown is what the figures ask
 pub answerable : (s places : List ℕ) (v : Verdict) (k : Task) → Judging s v places → v ≡ Accepted k → Answerable s k places
 answerable s places v k j e =
-    let sound = j .sound k e in
-    record {
-      walkable = record { sound = sound; accepted = accepted s k (sym (j .is) ∙ e) };
-      listing = record { ranges = sound .bus; count = sound .starts-is; few = sound .starts .few; below = sound .starts .low };
-    }
+    record { sound = j .sound k e; accepted = accepted s k (sym (j .is) ∙ e) }
 
 -- ---- refused by judging
 
@@ -68,20 +63,22 @@ whole true t P n place before tightest most exits after e h = absurd (let z : _�
 whole false t P n place before tightest most exits after e h = record { first = cc; second = cc; third = cc; table = h }
 
 module _ (s before : List ℕ) (k : Task) (e : judged s ≡ Accepted k) where
+  ranged : Ranged s
+  ranged = ranged-kept s k (when-accepted s k e)
+
   -- of numbers and a table that the definitions give
   totals : (tightest most exits : ℕ) (after : List ℕ) → given tightest most exits ≡ afterJudging s before (Accepted k) → after ≡ tableFor s before (Accepted k)
-      → Whole (taskOf s k) (periodOf k) before tightest most exits after
+      → Whole (taskOf s k) (k .period) before tightest most exits after
   totals tightest most exits after g h =
-      whole (ltb (length before) (periodOf k)) (taskOf s k) (periodOf k) _ (length s) before tightest most exits after g h
+      whole (ltb (length before) (k .period)) (taskOf s k) (k .period) _ (length s) before tightest most exits after g h
 
   -- demand 3 of them
   pub runs : (tightest most exits : ℕ) (after : List ℕ) → given tightest most exits ≡ afterJudging s before (Accepted k) → after ≡ tableFor s before (Accepted k)
       → WholeRuns (taskOf s k) tightest most exits after
-  unfolding equal
   runs tightest most exits after g h =
       let t = totals tightest most exits after g h in
-      rw (t .first, t .second, t .third, t .table)
-      (whole-runs (taskOf s k) (accepted s k e) (when-accepted s k e .short) (drop (periodOf k) before))
+      rw (t .first, t .second, t .third, t .table, when-accepted s k e .period)
+      (whole-runs (taskOf s k) (accepted s k e) (when-accepted s k e .short) _)
 
   -- and they are at most 65,535 for each of at most 100,000 visits
   pub figures-most : (tightest most exits : ℕ) (after : List ℕ) → given tightest most exits ≡ afterJudging s before (Accepted k) → after ≡ tableFor s before (Accepted k)
@@ -105,10 +102,11 @@ module _ (s before : List ℕ) (k : Task) (e : judged s ≡ Accepted k) where
         (runs (f .tight) (f .published) (f .exits) after (rw g at (a .result)) (a .table))
 
     algorithms : (f : Totals) → r ≡ Given f → ByAlgorithms s k f
-    unfolding equal
     algorithms f g = record {
       figure = totals (f .tight) (f .published) (f .exits) after (rw g at (a .result)) (a .table) .second;
-      wait = λ d o. ap (λ (b : Bus). equation7 (slotsOf b) d o) (when-accepted s k e .bus);
+      wait = slots-wait s;
+      unequal-wait = turns-wait s ranged;
+      first-tag = first-tag s ranged;
     }
 
     pub given-demand2 : Demand2 s r

@@ -1,22 +1,19 @@
 -- The answer and the lent table, as definitions over the image's bytes and the table at entry (document 01, "Both figures" and
 -- "When no figure is given"). Definitions only.
-use mathlib.Core.Bool.{Bool, true, false, cond}
-use mathlib.Core.Option.{none, some}
+use mathlib.Core.Bool.{cond}
+use mathlib.Core.Option.{none}
 use mathlib.Core.List.{List, _++_}
 use lib.ListN.{length, getD, drop}
 use lib.Dec.{ltb}
-use Prim.Native.Nat.{ℕ, _*_}
+use Prim.Native.Nat.{ℕ}
 use Rattle.runs.specs.Runs.{Task as RunTask}
 use Rattle.runs.specs.Carried.{row}
-use Rattle.runs.specs.Figures.{Time, entryOf, exitTimes, exitCount, tight, published}
+use Rattle.runs.specs.Figures.{entryOf, exitTimes, exitCount, tight, published}
 use Rattle.image.specs.Nodes.{taskOf}
 use Rattle.image.specs.Judged.{numberOf, judged}
-use Rattle.image.specs.declared.Refusal.{Refusal}
 use Rattle.image.specs.declared.Refusal.the-variants.{Table}
-use Rattle.image.specs.declared.Task.{Task}
 use Rattle.image.specs.declared.Verdict.{Verdict}
 use Rattle.image.specs.declared.Verdict.the-variants.{Accepted, Refused}
-use Rattle.figures.specs.declared.Totals.{Totals}
 use Rattle.figures.specs.declared.Answer.{Answer}
 use Rattle.figures.specs.declared.Answer.the-variants.{Given, Refused as NotGiven}
 
@@ -28,10 +25,6 @@ pub data Result : Type 0 where
 abbrev pub resultOf : Answer → Result
 resultOf (Given f) = given (f .tight) (f .published) (f .exits)
 resultOf (NotGiven r place) = refused (numberOf r) place
-
--- the period of an accepted image's bus
-abbrev pub periodOf : Task → ℕ
-periodOf k = k .bus .cores * k .bus .slot
 
 -- of a task with figures
 abbrev pub figuresOf : RunTask → Result
@@ -45,7 +38,7 @@ filled t P table = row P (λ o. entryOf (getD (exitTimes t) o none)) ++ drop P t
 -- 10: "fewer than P places lent", "judged last", its place "the image's length"
 abbrev pub afterJudging : List ℕ → List ℕ → Verdict → Result
 afterJudging s table (Refused r place) = refused (numberOf r) place
-afterJudging s table (Accepted k) = cond (ltb (length table) (periodOf k)) (refused (numberOf Table) (length s)) (figuresOf (taskOf s k))
+afterJudging s table (Accepted k) = cond (ltb (length table) (k .period)) (refused (numberOf Table) (length s)) (figuresOf (taskOf s k))
 
 -- the answer for any bytes and any table
 abbrev pub answer : List ℕ → List ℕ → Result
@@ -54,7 +47,7 @@ answer s table = afterJudging s table (judged s)
 -- the table at exit: "The table keeps its contents" where no figure is given
 abbrev pub tableFor : List ℕ → List ℕ → Verdict → List ℕ
 tableFor s table (Refused r place) = table
-tableFor s table (Accepted k) = cond (ltb (length table) (periodOf k)) table (filled (taskOf s k) (periodOf k) table)
+tableFor s table (Accepted k) = cond (ltb (length table) (k .period)) table (filled (taskOf s k) (k .period) table)
 
 abbrev pub tableAfter : List ℕ → List ℕ → List ℕ
 tableAfter s table = tableFor s table (judged s)

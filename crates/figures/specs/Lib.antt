@@ -1,4 +1,5 @@
 pub mod Answers
 pub mod WholeRuns
+pub mod EitherWay
 pub mod Promise
 pub mod Steps

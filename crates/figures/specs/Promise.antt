@@ -1,10 +1,14 @@
 -- The three parts of the promise of `figures`, over the image s, the table at entry, the answer and the table at exit. Definitions only.
 use mathlib.Core.Path.{_≡_}
 use mathlib.Core.List.{List}
-use Prim.Native.Nat.{ℕ}
-use Rattle.runs.specs.Slots.{equal, equation7}
+use mathlib.Core.Logic.{_⊎_}
+use Prim.Native.Nat.{ℕ, _+_, _%_, _≤_, _<_}
+use Rattle.runs.specs.Bus.{First}
+use Rattle.runs.specs.Schedules.{total, owns, ownsNext}
+use Rattle.runs.specs.Slots.{equation7}
 use Rattle.runs.specs.Figures.{published}
-use Rattle.image.specs.Bytes.{byteAt}
+use Rattle.bytes.specs.Bytes.{byteAt}
+use Rattle.schedule.specs.Said.{scheduleAt}
 use Rattle.image.specs.Nodes.{taskOf}
 use Rattle.image.specs.Judged.{judged}
 use Rattle.image.specs.declared.Task.{Task}
@@ -25,10 +29,15 @@ abbrev pub Demand3 : List ℕ → Answer → List ℕ → Type 0
 Demand3 s r after = (k : Task) (f : Totals) → judged s ≡ Accepted k → r ≡ Given f
     → WholeRuns (taskOf s k) (f .tight) (f .published) (f .exits) after
 
--- 3, demand 2: Algorithms 1 to 3, each access waiting by Equation 7 on the image's own cores, slot and core number
+-- 3, demand 2: Algorithms 1 to 3, each access waiting by Equation 7 on the image's own cores, slot and core number; where a schedule stands in their
+-- place (W5, tag 9), "the least number of cycles after which that core owns e consecutive cycles, counted round the period"
 pub record ByAlgorithms (s : List ℕ) (k : Task) (f : Totals) : Type 0 where
   pub figure : f .published ≡ published (taskOf s k)
-  pub wait : (e o : ℕ) → taskOf s k .bus .wait e o ≡ equation7 (record { cores = byteAt s 3; slot = byteAt s 4; core = byteAt s 5 }) e o
+  pub wait : byteAt s 0 ≡ 1 → (e o : ℕ) → taskOf s k .bus .wait e o ≡ equation7 (record { cores = byteAt s 3; slot = byteAt s 4; core = byteAt s 5 }) e o
+  pub unequal-wait : byteAt s 0 ≡ 9 → (e o : ℕ) → 1 ≤ e → e ≤ taskOf s k .bus .most → o < total (scheduleAt s .turns)
+      → First (λ w. ownsNext (total (scheduleAt s .turns)) (owns (scheduleAt s .core) (scheduleAt s .turns)) e ((o + w) % total (scheduleAt s .turns))) (taskOf s k .bus .wait e o)
+  -- there is no third
+  pub first-tag : (byteAt s 0 ≡ 1) ⊎ (byteAt s 0 ≡ 9)
 
 abbrev pub Demand2 : List ℕ → Answer → Type 0
 Demand2 s r = (k : Task) (f : Totals) → judged s ≡ Accepted k → r ≡ Given f → ByAlgorithms s k f

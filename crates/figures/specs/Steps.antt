@@ -5,52 +5,57 @@ use mathlib.Core.List.{List}
 use lib.ListN.{getD}
 use lib.Dec.{eqb}
 use Prim.Native.Nat.{ℕ, _+_, _≤_, _<_}
-use Rattle.runs.specs.Slots.{equal}
 use Rattle.runs.specs.Clock.{withLines}
 use Rattle.runs.specs.Runs.{listed}
-use Rattle.runs.specs.Figures.{noTime, startTimes, startSet, exitTimes, sum}
-use Rattle.bus.specs.declared.Bus.{Bus}
-use Rattle.bus.specs.Waits.{slotsOf, Ranges}
+use Rattle.runs.specs.Carried.{row}
+use Rattle.runs.specs.Figures.{noTime, startTimes, exitTimes, sum}
+use Rattle.runs.specs.Demand3.{Accepted as AcceptedTask}
+use Rattle.bus.specs.Owning.{busMeant}
 use Rattle.offsets.specs.declared.Set.{Set}
 use Rattle.offsets.specs.Sets.{value, has}
-use Rattle.image.specs.Bytes.{byteAt, wordAt}
+use Rattle.bytes.specs.Bytes.{byteAt}
+use Rattle.image.specs.Conditions.{lengthAt, bodyAt}
 use Rattle.image.specs.Nodes.{startsOf, taskOf}
-use Rattle.image.specs.Walks.{Walkable}
+use Rattle.schedule.specs.Said.{said}
+use Rattle.image.specs.Promise.{Sound}
 use Rattle.image.specs.declared.Task.{Task}
+use Rattle.image.specs.declared.Walk.{Walk}
 use Rattle.times.specs.Arrays.{tableOf}
 use Rattle.image.specs.declared.Verdict.the-variants.{Accepted}
 use Rattle.tight.specs.Steps.{table}
-use Rattle.exits.specs.Exits.{bitsOf, busPeriod, Within}
+use Rattle.exits.specs.Exits.{bitsOf, Within}
 use Rattle.figures.specs.declared.Answer.{Answer}
 use Rattle.figures.specs.Answers.{resultOf, afterJudging, tableFor}
 
--- field 2 of the image: n start offsets, each below the bus's period
-pub record Listing (s : List ℕ) (b : Bus) (n : ℕ) : Type 0 where
-  pub ranges : Ranges b
-  pub count : n ≡ wordAt s 7
+-- field 2 of the image: n start offsets from a place on, each below the period P
+pub record Listing (s : List ℕ) (place P n : ℕ) : Type 0 where
+  pub most : P ≤ 256
+  pub count : n ≡ lengthAt s 1
   pub few : n ≤ 256
-  pub below : (i : ℕ) → i < n → byteAt s (9 + i) < busPeriod b
+  pub below : (i : ℕ) → i < n → byteAt s (place + i) < P
+  pub stands : place ≡ bodyAt s 1
+  pub near : place ≤ 65541
 
 -- what judging has shown of an accepted image
 pub record Answerable (s : List ℕ) (k : Task) (places : List ℕ) : Type 0 where
-  pub walkable : Walkable s k places
-  pub listing : Listing s (k .bus) (k .starts)
+  pub sound : Sound s k places
+  pub accepted : AcceptedTask (taskOf s k)
 
 -- the array that holds the time 0 at each listed start; and the table that the walk starts from
-abbrev pub Started : List ℕ → Bus → List ℕ → Type 0
-Started s b r = (o : ℕ) → o < busPeriod b → getD r o 0 ≡ cond (listed (startsOf s) o) 0 noTime
+abbrev pub Started : List ℕ → ℕ → List ℕ → Type 0
+Started s P r = (o : ℕ) → o < P → getD r o 0 ≡ cond (listed (startsOf s) o) 0 noTime
 
-abbrev pub StartedAt : List ℕ → Task → List ℕ → Type 0
-StartedAt s k t = table k t ≡ startTimes (equal (slotsOf (k .bus))) (withLines (busPeriod (k .bus)) (k .lines)) (startsOf s)
+abbrev pub StartedAt : List ℕ → Walk → List ℕ → Type 0
+StartedAt s w t = table w t ≡ startTimes (busMeant (w .bus)) (withLines (w .bus .period) (w .task .lines)) (startsOf s)
 
 -- the set of the listed starts
-pub record StartedSet (s : List ℕ) (b : Bus) (r : Set) : Type 0 where
-  pub bits : bitsOf (busPeriod b) r ≡ startSet (equal (slotsOf b)) (startsOf s)
-  pub within : Within (busPeriod b) r
+pub record StartedSet (s : List ℕ) (P : ℕ) (r : Set) : Type 0 where
+  pub bits : bitsOf P r ≡ row P (λ o. listed (startsOf s) o)
+  pub within : Within P r
 
 -- the array that holds the exit times
 abbrev pub Ended : List ℕ → Task → List ℕ → Type 0
-Ended s k r = tableOf (busPeriod (k .bus)) r ≡ exitTimes (taskOf s k)
+Ended s k r = tableOf (said s .period) r ≡ exitTimes (taskOf s k)
 
 -- how many places below n of an array hold a time
 abbrev pub holding : List ℕ → ℕ → ℕ

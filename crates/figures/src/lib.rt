@@ -12,12 +12,14 @@ ghost use Prim.Native.Nat.{_≤_};
 ghost use lib.ListN.{take, drop, length};
 ghost use Rattle.runs.specs.Figures.{published};
 ghost use Rattle.image.specs.Nodes.{taskOf};
+ghost use Rattle.image.specs.Conditions.{bodyAt};
+ghost use Rattle.image.specs.Walks.{Walkable};
 ghost use Rattle.figures.specs.Promise.{Equal, Demand3, Demand2};
 ghost use Rattle.figures.specs.Steps.{Listing, Answerable, Answered, Started, StartedSet, Ended, Holding, holding};
-use bus::Bus;
 use image::Refusal;
 use image::Task;
 use image::Verdict;
+use image::Walk;
 use offsets::Set;
 
 // Both figures and the count of exit offsets.
@@ -33,15 +35,22 @@ pub enum Answer {
     Refused(Refusal, usize),
 }
 
-// The time 0 at each of the n listed starts.
-fn start_times(image: &[u8], b: Bus, n: usize) -> [u64; 256]
-    requires { ⌜ Listing (now image) b n ⌝ }
-    ensures { λ r. ⌜ (length r ≡ 256) × Started (now (image .entry)) b r ⌝ }
+// Where the start offsets stand: field 2 is behind field 1, wherever that ends.
+fn starts_at(image: &[u8]) -> usize
+    ensures { λ r. ⌜ (r ≡ bodyAt (now (image .entry)) 1) × (r ≤ 65541) ⌝ }
+{
+    6 + bytes::word(image, 1)
+}
+
+// The time 0 at each of the n listed starts, which are below the period.
+fn start_times(image: &[u8], place: usize, period: usize, n: usize) -> [u64; 256]
+    requires { ⌜ Listing (now image) place period n ⌝ }
+    ensures { λ r. ⌜ (length r ≡ 256) × Started (now (image .entry)) period r ⌝ }
 {
     let mut out = [18446744073709551615u64; 256];
     let mut i = 0;
     while i < n {
-        let o = image::read::byte(image, 9 + i);
+        let o = bytes::byte(image, place + i);
         out[o] = 0;
         i += 1;
     }
@@ -49,14 +58,14 @@ fn start_times(image: &[u8], b: Bus, n: usize) -> [u64; 256]
 }
 
 // The set of the n listed starts.
-fn start_set(image: &[u8], b: Bus, n: usize) -> Set
-    requires { ⌜ Listing (now image) b n ⌝ }
-    ensures { λ r. ⌜ StartedSet (now (image .entry)) b r ⌝ }
+fn start_set(image: &[u8], place: usize, period: usize, n: usize) -> Set
+    requires { ⌜ Listing (now image) place period n ⌝ }
+    ensures { λ r. ⌜ StartedSet (now (image .entry)) period r ⌝ }
 {
     let mut out = offsets::empty();
     let mut i = 0;
     while i < n {
-        let o = image::read::byte(image, 9 + i);
+        let o = bytes::byte(image, place + i);
         out = offsets::join(out, offsets::single(o as u64));
         i += 1;
     }
@@ -64,36 +73,38 @@ fn start_set(image: &[u8], b: Bus, n: usize) -> Set
 }
 
 // The longest time at each exit offset.
-fn exit_times(image: &[u8], places: &[usize; 256], k: Task) -> [u64; 256]
-    requires { ⌜ Answerable (now image) k (now places) ⌝ }
-    ensures { λ r. ⌜ Ended (now (image .entry)) k r ⌝ }
+fn exit_times(image: &[u8], places: &[usize; 256], w: Walk) -> [u64; 256]
+    requires { ⌜ Walkable (now image) w (now places) ⌝ }
+    ensures { λ r. ⌜ Ended (now (image .entry)) (w .task) r ⌝ }
 {
-    let mut t = start_times(image, k.bus, k.starts);
-    if 1 < k.sets {
-        return over_lines(image, places, k, &t);
+    let place = starts_at(image);
+    let mut t = start_times(image, place, w.bus.period, w.task.starts);
+    if 1 < w.task.sets {
+        return over_lines(image, places, w, &t);
     }
-    tight::walk(image, places, k, k.entry, &mut t);
+    tight::walk(image, places, w, w.task.entry, &mut t);
     t
 }
 
 // The same where the image has lines: the starts have no line fetched, and at the end each offset has its longest time, whichever lines are.
-fn over_lines(image: &[u8], places: &[usize; 256], k: Task, start: &[u64; 256]) -> [u64; 256]
-    requires { ⌜ (Answerable (now image) k (now places)) × Started (now image) (k .bus) (now start) ⌝ }
-    ensures { λ r. ⌜ Ended (now (image .entry)) k r ⌝ }
+fn over_lines(image: &[u8], places: &[usize; 256], w: Walk, start: &[u64; 256]) -> [u64; 256]
+    requires { ⌜ (Walkable (now image) w (now places)) × Started (now image) (w .bus .period) (now start) ⌝ }
+    ensures { λ r. ⌜ Ended (now (image .entry)) (w .task) r ⌝ }
 {
     let mut t = [18446744073709551615u64; 1024];
-    times::put(&mut t, 0, start, bus::period(k.bus));
-    tight::walk(image, places, k, k.entry, &mut t);
-    lined::at_offsets(k.bus, k.sets, &t)
+    times::put(&mut t, 0, start, w.bus.period);
+    tight::walk(image, places, w, w.task.entry, &mut t);
+    lined::at_offsets(w.bus, w.task.sets, &t)
 }
 
 // The published figure.
-fn published_cost(image: &[u8], places: &[usize; 256], k: Task) -> u64
-    requires { ⌜ Answerable (now image) k (now places) ⌝ }
-    ensures { λ r. ⌜ r ≡ published (taskOf (now (image .entry)) k) ⌝ }
+fn published_cost(image: &[u8], places: &[usize; 256], w: Walk) -> u64
+    requires { ⌜ Walkable (now image) w (now places) ⌝ }
+    ensures { λ r. ⌜ r ≡ published (taskOf (now (image .entry)) (w .task)) ⌝ }
 {
-    let start = start_set(image, k.bus, k.starts);
-    let all = published::walk(image, places, k, k.entry, start);
+    let place = starts_at(image);
+    let start = start_set(image, place, w.bus.period, w.task.starts);
+    let all = published::walk(image, places, w, w.task.entry, start);
     all.cost
 }
 
@@ -133,20 +144,24 @@ pub fn fill(table: &mut [u64], t: &[u64], n: usize)
     }
 }
 
-// The answer for an accepted image: 10, or the figures.
+// The answer for an accepted image: 10, or the figures, worked out on the bus that the image says.
 fn given(image: &[u8], places: &[usize; 256], k: Task, table: &mut [u64]) -> Answer
     requires { ⌜ Answerable (now image) k (now places) ⌝ }
     ensures { λ r. ⌜ Answered (now (image .entry)) k (now (table .entry)) r (now (table .exit)) ⌝ }
 {
-    let period = bus::period(k.bus);
+    let period = k.period;
     if table.len() < period {
         return Answer::Refused(Refusal::Table, image.len());
     }
-    let times = exit_times(image, places, k);
+    let w = Walk {
+        bus: schedule::bus_at(image),
+        task: k,
+    };
+    let times = exit_times(image, places, w);
     fill(table, &times, period);
     Answer::Given(Totals {
         tight: times::longest(times, period),
-        published: published_cost(image, places, k),
+        published: published_cost(image, places, w),
         exits: exit_count(times, period),
     })
 }

@@ -5,8 +5,7 @@ use mathlib.Core.List.{List}
 use native.Mathlib.Nat.{mod-lt, mod-mod, add-zero}
 use native.Mathlib.Omega.{arith}
 use Prim.Native.Nat.{ℕ, zero, suc, _+_, _-_, _%_, _≤_, _<_}
-use Rattle.runs.specs.Slots.{equal}
-use Rattle.runs.specs.Clock.{on, withLines, Turning}
+use Rattle.runs.specs.Clock.{on, withLines}
 use Rattle.runs.specs.Runs.{Task, placesOf, finalOffset, listed, Run}
 use Rattle.runs.specs.Figures.{treeOf}
 use Rattle.runs.specs.Demand3.{Accepted as RunAccepted}
@@ -16,8 +15,9 @@ use Rattle.runs.proofs.ByNumber.{exec-does}
 use Rattle.runs.proofs.SomeRun.{some-execution}
 use Rattle.runs.proofs.Whole.{whole-valid}
 use Rattle.runs.proofs.OnTheClock.{does-on}
-use Rattle.image.specs.Bytes.{byteAt, wordAt}
+use Rattle.bytes.specs.Bytes.{byteAt}
 use Rattle.image.specs.Nodes.{taskOf, startsOf}
+use Rattle.image.specs.Conditions.{lengthAt, bodyAt}
 use Rattle.image.specs.Judged.{judged}
 use Rattle.image.specs.Promise.{Starts}
 use Rattle.image.specs.declared.Task.{Task as Kept}
@@ -25,7 +25,7 @@ use Rattle.image.specs.declared.Verdict.the-variants.{Accepted}
 use Rattle.image.proofs.Lists.{is-listed}
 use Rattle.image.proofs.Reasons.{when-accepted}
 use Rattle.image.proofs.Sounds.{accepted, starts-kept}
-use Rattle.figures.specs.Answers.{given, answer, periodOf}
+use Rattle.figures.specs.Answers.{given, answer}
 use Rattle.figures.specs.WholeRuns.{WholeRuns}
 use Rattle.figures.proofs.Promises.{runs, figures-most}
 use Rattle.graph.specs.Graph.{Graph, Permitted, InTime}
@@ -81,26 +81,25 @@ time-permitted s lent k tight published exits e h = figures-most s lent k e tigh
 
 -- P starts, ascending and below P, are the offsets themselves
 module _ (s : List ℕ) (P : ℕ) (h : Starts s P P) where
-  no-lower : (i : ℕ) → i < P → i ≤ byteAt s (9 + i)
+  no-lower : (i : ℕ) → i < P → i ≤ byteAt s (bodyAt s 1 + i)
   no-lower zero l = omega arith
   no-lower (suc i) l = omega (arith, no-lower i (omega arith), h .ascend i (suc i) (omega arith) l)
 
-  no-higher : (d i : ℕ) → i + d + 1 ≡ P → byteAt s (9 + i) + d < P
+  no-higher : (d i : ℕ) → i + d + 1 ≡ P → byteAt s (bodyAt s 1 + i) + d < P
   no-higher zero i e = omega (arith, h .low i (omega arith))
   no-higher (suc d) i e = omega (arith, no-higher d (suc i) (omega arith), h .ascend i (suc i) (omega arith) (omega arith))
 
-  start-is : (i : ℕ) → i < P → byteAt s (9 + i) ≡ i
+  start-is : (i : ℕ) → i < P → byteAt s (bodyAt s 1 + i) ≡ i
   start-is i l = omega (arith, no-lower i l, no-higher (P - i - 1) i (omega arith))
 
 -- how it is seen in the bytes: an accepted image with as many starts as its period has offsets lists every offset
-pub lists-every : (s : List ℕ) (k : Kept) → judged s ≡ Accepted k → wordAt s 7 ≡ periodOf k → EveryOffset (taskOf s k)
-unfolding equal
+pub lists-every : (s : List ℕ) (k : Kept) → judged s ≡ Accepted k → lengthAt s 1 ≡ k .period → EveryOffset (taskOf s k)
 lists-every s k e full o l =
     let a = when-accepted s k e in
-    let many : k .starts ≡ periodOf k = a .starts ∙ full in
-    let h : Starts s (periodOf k) (periodOf k) = rw many at (starts-kept s k a) in
-    let this : byteAt s (9 + o) ≡ o = start-is s (periodOf k) h o l in
-    subst (λ (x : ℕ). listed (startsOf s) x ≡ true) this (is-listed s 9 (wordAt s 7) o (omega (arith, full)))
+    let many : k .starts ≡ k .period = a .starts ∙ full in
+    let h : Starts s (k .period) (k .period) = rw (many, ← (a .period)) at (starts-kept s k a) in
+    let this : byteAt s (bodyAt s 1 + o) ≡ o = start-is s (k .period) h o (omega (arith, a .period, l)) in
+    subst (λ (x : ℕ). listed (startsOf s) x ≡ true) this (is-listed s (bodyAt s 1) (lengthAt s 1) o (omega (arith, full, a .period, l)))
 
 -- ---- a graph of images
 

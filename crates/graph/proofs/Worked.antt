@@ -11,8 +11,9 @@ use Rattle.runs.specs.Clock.{withLines}
 use Rattle.runs.specs.Nodes.{trees, treeBy, treeTo, tree, depth, visits, linesTo}
 use Rattle.runs.specs.Carried.{carried}
 use Rattle.runs.specs.Figures.{startTimes, startSet, longer, later, longestOf, atOffsets, cost, entryOf, held, sum}
-use Rattle.image.specs.Bytes.{wordAt, words, bytes}
-use Rattle.image.specs.Fields.{tagOk, lengthOk, busOk, startsOk, plainOk, accessOk, blockOk, loopOk, valueOk, below, childrenOk, fieldOf}
+use Rattle.bytes.specs.Bytes.{wordAt, words, bytes}
+use Rattle.schedule.specs.Said.{busOk, said}
+use Rattle.image.specs.Fields.{tagOk, lengthOk, startsOk, plainOk, accessOk, blockOk, loopOk, valueOk, below, childrenOk, fieldOf}
 use Rattle.image.specs.Nodes.{fieldAt, nodeFrom, meant, nodeAt}
 use Rattle.image.specs.Judged.{scanFrom, scan, wholeOf, judged}
 use Rattle.image.specs.declared.Task.{Task as Kept}
@@ -66,10 +67,10 @@ abbrev a2 : List ℕ
 a2 = 1 ∷ 0 ∷ 3 ∷ 2 ∷ 5 ∷ 0 ∷ 2 ∷ 0 ∷ 10 ∷ 0 ∷ 1 ∷ 2 ∷ 3 ∷ 4 ∷ 5 ∷ 6 ∷ 7 ∷ 8 ∷ 9 ∷ 4 ∷ 0 ∷ 3 ∷ 2 ∷ 2 ∷ 2 ∷ []
 
 abbrev kept : Kept
-kept = record { bus = record { cores = 2; slot = 5; core = 0 }; starts = 10; lines = 0; sets = 1; nodes = 1; entry = 0 }
+kept = record { period = 10; starts = 10; lines = 0; sets = 1; nodes = 1; entry = 0 }
 
 quoted : Quoted a2 kept 8
-unfolding wordAt words bytes tagOk lengthOk busOk startsOk plainOk accessOk blockOk loopOk valueOk below childrenOk fieldOf fieldAt nodeFrom meant nodeAt trees treeBy treeTo tree depth visits power linesTo scanFrom scan wholeOf judged equal equation7 withLines carried startTimes startSet longer later longestOf atOffsets cost entryOf held sum
+unfolding wordAt words bytes tagOk lengthOk busOk said startsOk plainOk accessOk blockOk loopOk valueOk below childrenOk fieldOf fieldAt nodeFrom meant nodeAt trees treeBy treeTo tree depth visits power linesTo scanFrom scan wholeOf judged equal equation7 withLines carried startTimes startSet longer later longestOf atOffsets cost entryOf held sum
 quoted = record {
   accepted = refl;
   every = lists-every a2 kept refl refl;

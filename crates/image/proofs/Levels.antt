@@ -9,7 +9,7 @@ use lib.Seq.{getD-set-same, getD-set-other}
 use borrow.Author.Count.{below-more}
 use Rattle.runs.specs.Nodes.{trees, treeBy, Children as Named, depth, deepest, visits, visitsAll}
 use Rattle.runs.proofs.Trees.{tree-is}
-use Rattle.image.specs.Bytes.{wordAt}
+use Rattle.bytes.specs.Bytes.{wordAt}
 use Rattle.image.specs.Nodes.{fieldAt, nodeOf, meant, nodeAt, treeAt, childTrees}
 use Rattle.image.specs.Conditions.{Passed}
 use Rattle.image.specs.Promise.{Fine, Standing}

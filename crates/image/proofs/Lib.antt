@@ -12,3 +12,6 @@ pub mod Sounds
 pub mod Promises
 pub mod Worked
 pub mod Walks
+pub mod Reading
+pub mod SameRest
+pub mod EitherWay

@@ -9,10 +9,10 @@ use lib.Dec.{ltb, leb, eqb}
 use borrow.Author.Tests.{ltb-true, leb-true, eq-eqb}
 use Rattle.runs.specs.Nodes.{All}
 use Rattle.runs.specs.Runs.{listed}
-use Rattle.image.specs.Bytes.{byteAt, wordAt, bytes, words}
+use Rattle.bytes.specs.Bytes.{byteAt, wordAt, bytes, words}
 use Rattle.image.specs.Fields.{startsOk, below}
 use Rattle.image.specs.Promise.{NamesBelow}
-use Rattle.image.proofs.Numbers.{both}
+use Rattle.schedule.proofs.Numbers.{both}
 
 module _ (s : List ℕ) (p n i : ℕ) where
   -- child number i, and those after it

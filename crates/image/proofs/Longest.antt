@@ -1,5 +1,6 @@
--- "a valid image has at most" so many bytes, "since node 0 must be a block" (document 01; with W9 that block may have tag 10, and one byte more).
-use mathlib.Core.Path.{_≡_, _∙_}
+-- "a valid image has at most" so many bytes, "since node 0 must be a block" (document 01; with W9 that block may have tag 10, and one byte more; with W5
+-- field 1 has up to 62 bytes more).
+use mathlib.Core.Path.{_≡_}
 use mathlib.Core.Logic.{_⊎_}
 use mathlib.Core.Bool.{true}
 use mathlib.Core.List.{List}
@@ -9,15 +10,15 @@ use borrow.Author.Tests.{eqb-true}
 use native.Mathlib.Nat.{not-suc-le-zero}
 use native.Mathlib.Omega.{arith}
 use Prim.Native.Nat.{ℕ, zero, suc, _+_, _*_, _/_, _%_, _≤_}
-use Rattle.image.specs.Bytes.{wordAt}
-use Rattle.image.specs.Fields.{within, lengthOk, childrenOk}
+use Rattle.schedule.specs.Said.{within}
+use Rattle.image.specs.Fields.{lengthOk, childrenOk}
 use Rattle.image.specs.Nodes.{fieldAt}
 use Rattle.image.specs.Conditions.{tagAt, lengthAt, bodyAt, GoodField, Passed, Accepting, longestImage}
 use Rattle.image.specs.declared.Task.{Task}
-use Rattle.image.proofs.Numbers.{both, is-within}
+use Rattle.schedule.proofs.Numbers.{both, is-within}
 use Rattle.image.proofs.Lists.{names-below}
 use Rattle.image.proofs.Passing.{next-at, few, fewer}
-use Rattle.image.proofs.Kept.{by-tag, bus-row, starts-row, node-tag}
+use Rattle.image.proofs.Kept.{by-tag, first-end, first-most, starts-row, node-tag}
 
 -- the longest body of a node field
 body-most : (t n : ℕ) → (t ≡ 10) ⊎ ((3 ≤ t) × (t ≤ 7)) → lengthOk t n ≡ true → n ≤ 32
@@ -32,9 +33,9 @@ body-most t n r =
     (λ e. omega (arith, eqb-true n 5 e))
 
 -- node 0 names no child
-first-most : (s : List ℕ) (b t n : ℕ) → (t ≡ 10) ⊎ ((3 ≤ t) × (t ≤ 7)) → lengthOk t n ≡ true → childrenOk s t b n 2 ≡ true → n ≤ 5
+block-most : (s : List ℕ) (b t n : ℕ) → (t ≡ 10) ⊎ ((3 ≤ t) × (t ≤ 7)) → lengthOk t n ≡ true → childrenOk s t b n 2 ≡ true → n ≤ 5
 unfolding lengthOk childrenOk
-first-most s b t n r =
+block-most s b t n r =
     by-tag (λ t. lengthOk t n ≡ true → childrenOk s t b n 2 ≡ true → n ≤ 5) t r
     (λ e c. omega (arith, eqb-true n 4 e))
     (λ e c. omega (arith, eqb-true n 3 e))
@@ -50,15 +51,13 @@ module _ (s : List ℕ) where
 
   first-node : GoodField s 2 → lengthAt s 2 ≤ 5
   first-node g =
-      first-most s (bodyAt s 2) (tagAt s 2) (lengthAt s 2) (node-tag 0 (tagAt s 2) (g .tag)) (g .len) (g .children)
+      block-most s (bodyAt s 2) (tagAt s 2) (lengthAt s 2) (node-tag 0 (tagAt s 2) (g .tag)) (g .len) (g .children)
 
-  -- node j ends before 273 + 35 × j
-  ends-most : (j : ℕ) → Passed s (j + 3) → fieldAt s (j + 3) ≤ 273 + 35 * j
+  -- node j ends before 335 + 35 × j
+  ends-most : (j : ℕ) → Passed s (j + 3) → fieldAt s (j + 3) ≤ 335 + 35 * j
   ends-most zero p =
-      let f = bus-row s (p 0 (omega arith)) .1 in
-      let w = is-within 1 256 (wordAt s 7) (starts-row s f (p 1 (omega arith)) .1) .1 in
-      let two : fieldAt s 2 ≡ 9 + wordAt s 7 = next-at s 1 ∙ rw f (omega arith) in
-      rw (next-at s 2) (omega (arith, first-node (p 2 (omega arith))))
+      let w = is-within 1 256 (lengthAt s 1) (starts-row s (p 1 (omega arith)) .1) .1 in
+      rw (next-at s 2) (omega (arith, first-end s, first-most s (p 0 (omega arith)), next-at s 1, w, first-node (p 2 (omega arith))))
   ends-most (suc j) p =
       let e : suc j + 3 ≡ suc (j + 3) = omega arith in
       let q : j + 3 ≡ suc j + 2 = omega arith in

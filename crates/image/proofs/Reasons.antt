@@ -11,13 +11,13 @@ use lib.Dec.{ltb}
 use borrow.Author.Tests.{lt-ltb, le-ltb, lt-leb}
 use Rattle.runs.specs.Lines.{power}
 use Rattle.runs.specs.Nodes.{depth, visits}
-use Rattle.image.specs.Bytes.{byteAt}
+use Rattle.schedule.specs.Said.{said}
 use Rattle.image.specs.Fields.{fieldOf}
 use Rattle.image.specs.Nodes.{fieldAt, linesOf, treeAt}
 use Rattle.image.specs.Judged.{numberOf, scan, wholeOf, judged}
 use Rattle.image.specs.Conditions.{lengthAt, bodyAt, Passed, Complete, Condition, head-cut, wrong-tag, one-more, wrong-length, body-cut, wrong-value, not-below, no-node, too-deep, too-long, too-wide, Accepting}
 use Rattle.image.specs.declared.Refusal.{Refusal}
-use Rattle.image.specs.declared.Refusal.the-variants.{Cut, Tag, Full, Length, Value, Forward, Unfinished, Deep, Long, Table, Lines}
+use Rattle.image.specs.declared.Refusal.the-variants.{Cut, Tag, Full, Length, Value, Forward, Unfinished, Deep, Long, Lines}
 use Rattle.image.specs.declared.fields.Judgement.the-variants.{Bad}
 use Rattle.image.specs.declared.fields.End.the-variants.{Whole}
 use Rattle.image.specs.declared.Task.{Task}
@@ -70,7 +70,7 @@ module _ (s : List ℕ) where
         f,
         le-ltb 24 (depth (treeAt s n)) d,
         le-ltb 100000 (visits (treeAt s n)) v,
-        lt-ltb 1024 (byteAt s 3 * byteAt s 4 * power (linesOf s (suc n))) w,
+        lt-ltb 1024 (said s .period * power (linesOf s (suc n))) w,
       )
 
   pub when-refused : (r : Refusal) (place : ℕ) → judged s ≡ Refused r place → Condition s r place
@@ -98,8 +98,8 @@ module _ (s : List ℕ) where
         le-ltb 100000 (visits (treeAt s (t .entry))) (a .short),
         sym (a .lines),
         sym (a .sets),
-        le-ltb 1024 (byteAt s 3 * byteAt s 4 * t .sets) (a .narrow),
-        sym (a .bus),
+        sym (a .period),
+        le-ltb 1024 (t .period * t .sets) (rw (a .period) (a .narrow)),
         sym (a .starts),
       )
 

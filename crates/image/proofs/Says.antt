@@ -10,8 +10,8 @@ use lib.Dec.{leb, ltb}
 use borrow.Author.Tests.{ltb-true, ltb-false, leb-true, leb-false, not-true, not-false}
 use Rattle.runs.specs.Lines.{power}
 use Rattle.runs.specs.Nodes.{depth, visits}
-use Rattle.image.specs.Bytes.{byteAt, wordAt}
-use Rattle.image.specs.Fields.{tagOk, lengthOk, valueOk, childrenOk, refuse, fieldOf, busOf}
+use Rattle.schedule.specs.Said.{said}
+use Rattle.image.specs.Fields.{tagOk, lengthOk, valueOk, childrenOk, refuse, fieldOf}
 use Rattle.image.specs.Nodes.{fieldAt, linesOf, treeAt}
 use Rattle.image.specs.Judged.{pickEnd, onField, scanFrom, scan, refuseAll, wholeOf, onEnd, judged}
 use Rattle.image.specs.Conditions.{tagAt, lengthAt, bodyAt, GoodField, Passed, Complete, Condition, head-cut, wrong-tag, one-more, wrong-length, body-cut, wrong-value, not-below, no-node, too-deep, too-long, too-wide, Accepting}
@@ -122,8 +122,8 @@ module _ (s : List ℕ) where
   unfolding wholeOf
   whole-says n c =
       let x = linesOf s (n - 2) in
-      let p4 = Accepted (record { bus = busOf s; starts = wordAt s 7; lines = x; sets = power x; nodes = n - 2; entry = n - 3 }) in
-      let p3 = refuseAll (ltb 1024 (byteAt s 3 * byteAt s 4 * power x)) Lines (length s) p4 in
+      let p4 = Accepted (record { period = said s .period; starts = lengthAt s 1; lines = x; sets = power x; nodes = n - 2; entry = n - 3 }) in
+      let p3 = refuseAll (ltb 1024 (said s .period * power x)) Lines (length s) p4 in
       let p2 = refuseAll (ltb 100000 (visits (treeAt s (n - 3)))) Long (length s) p3 in
       let p1 = refuseAll (ltb 24 (depth (treeAt s (n - 3)))) Deep (length s) p2 in
       by-all VerdictSays (ltb n 3) Unfinished (length s) p1
@@ -137,15 +137,15 @@ module _ (s : List ℕ) where
       by-all VerdictSays (ltb 100000 (visits (treeAt s (n - 3)))) Long (length s) p3
       (λ e. too-long (n - 3) (subst (Complete s) q c) d (ltb-true 100000 _ e))
       (λ e3. let v = ltb-false 100000 (visits (treeAt s (n - 3))) e3 in
-      by-all VerdictSays (ltb 1024 (byteAt s 3 * byteAt s 4 * power x)) Lines (length s) p4
+      by-all VerdictSays (ltb 1024 (said s .period * power x)) Lines (length s) p4
       (λ e. let m : n - 2 ≡ suc (n - 3) = omega arith in
-      too-wide (n - 3) (subst (Complete s) q c) d v (subst (λ (z : ℕ). 1024 < byteAt s 3 * byteAt s 4 * power (linesOf s z)) m (ltb-true 1024 _ e)))
+      too-wide (n - 3) (subst (Complete s) q c) d v (subst (λ (z : ℕ). 1024 < said s .period * power (linesOf s z)) m (ltb-true 1024 _ e)))
       (λ e4. record {
         complete = subst (Complete s) w c;
         last = omega arith;
         shallow = d;
         short = v;
-        bus = refl;
+        period = refl;
         starts = refl;
         lines = refl;
         sets = refl;

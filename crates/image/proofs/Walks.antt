@@ -1,23 +1,24 @@
 -- What a walk learns of a node of an accepted image from its decoding: its tree, the ranges of its numbers, and its children one by one.
-use mathlib.Core.Path.{_≡_, refl, sym, _∙_, ap}
+use mathlib.Core.Path.{_≡_, sym, _∙_, ap}
 use mathlib.Core.List.{List}
 use lib.ListN.{length, getD}
 use native.Mathlib.Omega.{arith}
-use Prim.Native.Nat.{ℕ, suc, _+_, _-_, _*_, _≤_, _<_}
-use Rattle.runs.specs.Bus.{Bus}
-use Rattle.runs.specs.Slots.{periodOf, equal}
+use Prim.Native.Nat.{ℕ, _+_, _-_, _*_, _≤_, _<_}
+use Rattle.runs.specs.Bus.{Bus, Lawful}
+use Rattle.runs.proofs.SchedulesLaws.{owning-lawful}
+use Rattle.runs.specs.Schedules.{owning}
 use Rattle.runs.specs.Clock.{Places}
-use Rattle.runs.specs.Nodes.{Tree, Trees, none, more, treeBy, trees}
+use Rattle.runs.specs.Nodes.{Tree, Trees, none, more, treeBy, trees, nodeLines}
 use Rattle.runs.specs.Carried.{carried, carriedAll, carriedAny}
 use Rattle.runs.proofs.Executions.{Valid}
 use Rattle.runs.proofs.Whole.{node-valid}
-use Rattle.bus.specs.Waits.{slotsOf}
-use Rattle.image.specs.Bytes.{byteAt, wordAt}
+use Rattle.bus.specs.Owning.{owns, busMeant}
+use Rattle.bytes.specs.Bytes.{wordAt}
+use Rattle.schedule.specs.Said.{said}
 use Rattle.image.specs.Nodes.{nodeOf, meant, kindMeant, treeAt, childTrees, taskOf}
-use Rattle.runs.specs.Nodes.{nodeLines}
 use Rattle.image.specs.Promise.{Fine, Standing}
 use Rattle.image.specs.Walks.{Walkable, Named}
-use Rattle.image.specs.declared.Task.{Task}
+use Rattle.image.specs.declared.Walk.{Walk}
 use Rattle.image.specs.declared.nodes.Node.the-variants.{Plain, Bus as Block, Once, Sequence, Branch, Loop}
 use Rattle.image.specs.declared.nodes.Plain.{Plain as PlainNumbers}
 use Rattle.image.specs.declared.nodes.BusBlock.{BusBlock}
@@ -65,16 +66,32 @@ module _ (b : Bus) (q : Places) {X : Type 0} (empty : X) (join : X → X → X) 
 
 -- ---- nodes
 
-module _ (s : List ℕ) (t : Task) (places : List ℕ) (w : Walkable s t places) where
-  pub period-small : periodOf (slotsOf (t .bus)) ≤ 256
-  period-small = w .sound .bus .period-most
+module _ (s : List ℕ) (k : Walk) (places : List ℕ) (w : Walkable s k places) where
+  pub period-small : k .bus .period ≤ 256
+  period-small = w .fit .most
 
-  module _ (n : ℕ) (low : n ≤ t .entry) where
-    pub valid-at : Valid (equal (slotsOf (t .bus)) .most) (treeAt s n)
-    valid-at = node-valid (taskOf s t) (w .accepted) n (omega arith)
+  -- the laws about runs hold of the walk's bus
+  pub walk-lawful : Lawful (busMeant (k .bus))
+  walk-lawful = owning-lawful (k .bus .period) (owns (k .bus)) (w .fit .least)
+
+  pub walk-small : busMeant (k .bus) .period + busMeant (k .bus) .most ≤ 65535
+  walk-small = omega (arith, w .same .period, w .same .most, w .accepted .small)
+
+  -- the bus and the task have the same period
+  pub period-same : k .bus .period ≡ k .task .period
+  unfolding owning
+  period-same = w .same .period ∙ sym (w .sound .period-is)
+
+  -- the longest access is the one that the image says
+  most-is : k .bus .most ≡ said s .most
+  most-is = w .fit .longest ∙ w .same .most
+
+  module _ (n : ℕ) (low : n ≤ k .task .entry) where
+    pub valid-at : Valid (busMeant (k .bus) .most) (treeAt s n)
+    valid-at = rw (w .same .most) (node-valid (taskOf s (k .task)) (w .accepted) n (omega arith))
 
     here : Standing s n (getD places n 0)
-    here = standing s t places (w .sound) n (omega (arith, w .sound .last))
+    here = standing s (k .task) places (w .sound) n (omega (arith, w .sound .last))
 
     pub node-place : (getD places n 0 ≤ length s) × (n < 256)
     node-place = (inside-here s n _ here, few-here s n _ here)
@@ -86,20 +103,21 @@ module _ (s : List ℕ) (t : Task) (places : List ℕ) (w : Walkable s t places)
     as-plain p e = let f = fine-here s n _ here (Plain p) e in (tree-here s n _ here (Plain p) e, f .order, f .most, omega (arith, f .order, f .near))
 
     pub as-block : (b : BusBlock) → nodeOf s (getD places n 0) ≡ Block b
-        → (treeAt s n ≡ Tree.bus (kindMeant (b .kind)) (b .lowest) (b .highest)) × (1 ≤ b .lowest) × (b .lowest ≤ b .highest) × (b .highest ≤ t .bus .slot)
+        → (treeAt s n ≡ Tree.bus (kindMeant (b .kind)) (b .lowest) (b .highest)) × (1 ≤ b .lowest) × (b .lowest ≤ b .highest) × (b .highest ≤ k .bus .most)
+        × (b .highest ≤ 255)
     unfolding meant treeBy Fine
     as-block b e =
         let f = fine-here s n _ here (Block b) e in
-        (tree-here s n _ here (Block b) e, f .0, f .1, rw (w .sound .bus-is) (f .2))
+        (tree-here s n _ here (Block b) e, f .0, f .1, omega (arith, f .2, most-is), f .3)
 
     pub as-once : (x : OnceNumbers) → nodeOf s (getD places n 0) ≡ Once x
         → (treeAt s n ≡ Tree.once (x .line) (x .lowest) (x .highest) (x .hit)) × (1 ≤ x .lowest) × (x .lowest ≤ x .highest)
-        × (x .highest ≤ t .bus .slot) × (x .hit ≤ 65535) × (x .line < t .lines)
+        × (x .highest ≤ k .bus .most) × (x .hit ≤ 65535) × (x .line < k .task .lines) × (x .highest ≤ 255)
     unfolding meant treeBy Fine
     as-once x e =
         let f = fine-here s n _ here (Once x) e in
-        let l : x .line + 1 ≤ t .lines = rw (w .sound .lines-is, ← ap nodeLines (node-here s n _ here (Once x) e)) (line-below s n (t .nodes) (omega (arith, w .sound .last))) in
-        (tree-here s n _ here (Once x) e, f .1, f .2, rw (w .sound .bus-is) (f .3), f .4, omega arith)
+        let l : x .line + 1 ≤ k .task .lines = rw (w .sound .lines-is, ← ap nodeLines (node-here s n _ here (Once x) e)) (line-below s n (k .task .nodes) (omega (arith, w .sound .last))) in
+        (tree-here s n _ here (Once x) e, f .1, f .2, omega (arith, f .3, most-is), f .4, omega arith, f .5)
 
     pub as-sequence : (c : Children) → nodeOf s (getD places n 0) ≡ Sequence c
         → (treeAt s n ≡ Tree.sequence (childTrees s (c .place) (c .count))) × Named s (c .place) (c .count) n

@@ -8,8 +8,9 @@ use Prim.Native.Nat.{ℕ, suc, _+_, _*_, _≤_, _<_}
 use lib.ListN.{length}
 use Rattle.runs.specs.Lines.{power}
 use Rattle.runs.specs.Nodes.{depth, visits}
-use Rattle.image.specs.Bytes.{byteAt, wordAt}
-use Rattle.image.specs.Fields.{tagOk, lengthOk, valueOk, childrenOk, busOf}
+use Rattle.bytes.specs.Bytes.{byteAt, wordAt}
+use Rattle.schedule.specs.Said.{said}
+use Rattle.image.specs.Fields.{tagOk, lengthOk, valueOk, childrenOk}
 use Rattle.image.specs.Nodes.{fieldAt, linesOf, treeAt}
 use Rattle.image.specs.declared.Task.{Task}
 use Rattle.image.specs.declared.Refusal.{Refusal}
@@ -46,7 +47,7 @@ pub record Complete (s : List ℕ) (n : ℕ) : Type 0 where
 pub data Condition (s : List ℕ) : Refusal → ℕ → Type 0 where
   -- 1: "1 or 2 bytes left where a field's head should stand"
   head-cut : (k : ℕ) → Passed s k → fieldAt s k < length s → length s < fieldAt s k + 3 → Condition s Cut (fieldAt s k)
-  -- 2: "the first field's tag is not 1, the second's not 2, or a later one's not 3 to 7", nor 10 of W9
+  -- 2: "the first field's tag is not 1, the second's not 2, or a later one's not 3 to 7", nor 9 of W5 and 10 of W9
   wrong-tag : (k : ℕ) → Passed s k → fieldAt s k + 3 ≤ length s → tagOk k (tagAt s k) ≡ false → Condition s Tag (fieldAt s k)
   -- 3: "a 257th node field", which has 258 fields before it
   one-more : Passed s 258 → fieldAt s 258 + 3 ≤ length s → tagOk 258 (tagAt s 258) ≡ true → Condition s Full (fieldAt s 258)
@@ -73,7 +74,7 @@ pub data Condition (s : List ℕ) : Refusal → ℕ → Type 0 where
   too-long : (n : ℕ) → Complete s (n + 3) → depth (treeAt s n) ≤ 24 → 100000 < visits (treeAt s n) → Condition s Long (length s)
   -- 18 (W9): "period × 2 to the number of lines exceeds 1,024, judged after 9 and before 10, with the image's length as place"
   too-wide : (n : ℕ) → Complete s (n + 3) → depth (treeAt s n) ≤ 24 → visits (treeAt s n) ≤ 100000
-      → 1024 < byteAt s 3 * byteAt s 4 * power (linesOf s (suc n)) → Condition s Lines (length s)
+      → 1024 < said s .period * power (linesOf s (suc n)) → Condition s Lines (length s)
 
 -- "an image is accepted when none holds": the good fields fill it, the last node is the entry, and the task is what they say
 pub record Accepting (s : List ℕ) (t : Task) : Type 0 where
@@ -81,13 +82,13 @@ pub record Accepting (s : List ℕ) (t : Task) : Type 0 where
   pub last : t .nodes ≡ suc (t .entry)
   pub shallow : depth (treeAt s (t .entry)) ≤ 24
   pub short : visits (treeAt s (t .entry)) ≤ 100000
-  pub bus : t .bus ≡ busOf s
-  pub starts : t .starts ≡ wordAt s 7
+  pub period : t .period ≡ said s .period
+  pub starts : t .starts ≡ lengthAt s 1
   pub lines : t .lines ≡ linesOf s (t .nodes)
   pub sets : t .sets ≡ power (t .lines)
-  pub narrow : byteAt s 3 * byteAt s 4 * t .sets ≤ 1024
+  pub narrow : said s .period * t .sets ≤ 1024
 
--- the longest valid image: 6 bytes for the bus, 259 for the starts, 8 for node 0, a block of tag 10 (W9), and 35 for each of 255 more nodes
+-- the longest valid image: 68 bytes for a bus of 32 pairs (W5), 259 for the starts, 8 for node 0, a block of tag 10 (W9), and 35 for each of 255 more nodes
 -- (`longest` of proofs/Longest.antt)
 abbrev pub longestImage : ℕ
-longestImage = 9198
+longestImage = 9260

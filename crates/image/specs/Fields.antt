@@ -2,31 +2,29 @@
 -- Definitions only.
 use mathlib.Core.Bool.{Bool, true, false, not, _&&_}
 use mathlib.Core.List.{List}
-use Prim.Native.Nat.{ℕ, zero, suc, _+_, _-_, _*_, _/_, _%_}
+use Prim.Native.Nat.{ℕ, zero, suc, _+_, _-_, _/_, _%_}
 use lib.ListN.{length}
 use lib.Dec.{eqb, leb, ltb}
-use Rattle.image.specs.Bytes.{byteAt, wordAt}
-use Rattle.bus.specs.declared.Bus.{Bus}
+use Rattle.bytes.specs.Bytes.{byteAt, wordAt}
+use Rattle.schedule.specs.Said.{within, busOk, scheduleOf, scheduleOk, said}
 use Rattle.image.specs.declared.Refusal.{Refusal}
 use Rattle.image.specs.declared.Refusal.the-variants.{Cut, Tag, Full, Length, Value, Forward}
 use Rattle.image.specs.declared.fields.Judgement.{Judgement}
 use Rattle.image.specs.declared.fields.Judgement.the-variants.{Good, Bad}
 
--- n is from low to high; and even besides
-abbrev pub within : ℕ → ℕ → ℕ → Bool
-within low high n = leb low n && leb n high
-
-abbrev pub evenWithin : ℕ → ℕ → ℕ → Bool
-evenWithin low high n = within low high n && eqb (n % 2) 0
+-- n is from low to high, and even where `odd` is 0, odd where it is 1
+abbrev pub parityWithin : ℕ → ℕ → ℕ → ℕ → Bool
+parityWithin odd low high n = within low high n && eqb (n % 2) odd
 
 -- a where the test holds, and else b
 abbrev pub choose : Bool → Bool → Bool → Bool
 choose true a b = a
 choose false a b = b
 
--- "Field 1 comes first, field 2 second, then 1 to 256 node fields (tags 3 to 7)", and with W9 tag 10: the tag of the field with `index` fields before it
+-- "Field 1 comes first, field 2 second, then 1 to 256 node fields (tags 3 to 7)", with W5 tag 9 "in place of tag 1" and with W9 tag 10: the tag of the
+-- field with `index` fields before it
 unfoldable pub tagOk : ℕ → ℕ → Bool
-tagOk index tag = choose (eqb index 0) (eqb tag 1) (choose (eqb index 1) (eqb tag 2) (choose (eqb tag 10) true (within 3 7 tag)))
+tagOk index tag = choose (eqb index 0) (choose (eqb tag 9) true (eqb tag 1)) (choose (eqb index 1) (eqb tag 2) (choose (eqb tag 10) true (within 3 7 tag)))
 
 -- "Body length", row by row
 unfoldable pub lengthOk : ℕ → ℕ → Bool
@@ -35,14 +33,11 @@ lengthOk tag n =
     (choose (eqb tag 2) (within 1 256 n)
     (choose (eqb tag 3) (eqb n 4)
     (choose (eqb tag 4) (eqb n 3)
-    (choose (eqb tag 5) (evenWithin 2 32 n)
-    (choose (eqb tag 6) (evenWithin 4 16 n)
+    (choose (eqb tag 5) (parityWithin 0 2 32 n)
+    (choose (eqb tag 6) (parityWithin 0 4 16 n)
     (choose (eqb tag 7) (eqb n 6)
-    (choose (eqb tag 10) (eqb n 5) false)))))))
-
--- row 1: "cores 2 to 16, slot 1 to 128, core number below cores; cores × slot at most 256"
-unfoldable pub busOk : ℕ → ℕ → ℕ → Bool
-busOk cores slot core = within 2 16 cores && (within 1 128 slot && (ltb core cores && leb (cores * slot) 256))
+    (choose (eqb tag 10) (eqb n 5)
+    (choose (eqb tag 9) (parityWithin 1 3 65 n) false))))))))
 
 -- row 2: "start offsets, strictly ascending, each below P": the n bytes from a place on, the first of them at least `least`
 unfoldable pub startsOk : List ℕ → ℕ → ℕ → ℕ → ℕ → Bool
@@ -54,13 +49,13 @@ startsOk s place (suc n) least period =
 unfoldable pub plainOk : ℕ → ℕ → Bool
 plainOk lowest highest = leb highest 65535 && (leb lowest highest && leb (highest - lowest) 63)
 
--- rows 4 and 10: "1 ≤ lowest ≤ highest ≤ slot"
+-- rows 4 and 10: "1 ≤ lowest ≤ highest ≤ slot", a byte each; with W5 up to "the longest such stretch"
 unfoldable pub accessOk : ℕ → ℕ → ℕ → Bool
-accessOk lowest highest slot = leb 1 lowest && (leb lowest highest && leb highest slot)
+accessOk lowest highest most = leb 1 lowest && (leb lowest highest && (leb highest 255 && leb highest most))
 
 -- row 4: "kind (1 may access, 2 always accesses)"
 unfoldable pub blockOk : ℕ → ℕ → ℕ → ℕ → Bool
-blockOk kind lowest highest slot = within 1 2 kind && accessOk lowest highest slot
+blockOk kind lowest highest most = within 1 2 kind && accessOk lowest highest most
 
 -- row 7: "least ≤ greatest ≤ 10,000"
 unfoldable pub loopOk : ℕ → ℕ → Bool
@@ -68,21 +63,18 @@ loopOk least greatest = leb least greatest && leb greatest 10000
 
 -- row 10 (W9): "a line number 0 to 3, lowest and highest bus duration as in tag 4, and a two-byte hit time"
 unfoldable pub onceOk : ℕ → ℕ → ℕ → ℕ → ℕ → Bool
-onceOk line lowest highest hit slot = leb line 3 && (leb hit 65535 && accessOk lowest highest slot)
-
--- the bus of field 1, whose body stands at place 3
-abbrev pub busOf : List ℕ → Bus
-busOf s = record { cores = byteAt s 3; slot = byteAt s 4; core = byteAt s 5 }
+onceOk line lowest highest hit most = leb line 3 && (leb hit 65535 && accessOk lowest highest most)
 
 -- the row's rules for the body of n bytes that stands at a place; rows 5 and 6 have child numbers alone, "left to 6"
 unfoldable pub valueOk : List ℕ → ℕ → ℕ → ℕ → Bool
 valueOk s tag body n =
     choose (eqb tag 1) (busOk (byteAt s body) (byteAt s (body + 1)) (byteAt s (body + 2)))
-    (choose (eqb tag 2) (startsOk s body n 0 (busOf s .cores * busOf s .slot))
+    (choose (eqb tag 2) (startsOk s body n 0 (said s .period))
     (choose (eqb tag 3) (plainOk (wordAt s body) (wordAt s (body + 2)))
-    (choose (eqb tag 4) (blockOk (byteAt s body) (byteAt s (body + 1)) (byteAt s (body + 2)) (busOf s .slot))
+    (choose (eqb tag 4) (blockOk (byteAt s body) (byteAt s (body + 1)) (byteAt s (body + 2)) (said s .most))
     (choose (eqb tag 7) (loopOk (wordAt s body) (wordAt s (body + 2)))
-    (choose (eqb tag 10) (onceOk (byteAt s body) (byteAt s (body + 1)) (byteAt s (body + 2)) (wordAt s (body + 3)) (busOf s .slot)) true)))))
+    (choose (eqb tag 10) (onceOk (byteAt s body) (byteAt s (body + 1)) (byteAt s (body + 2)) (wordAt s (body + 3)) (said s .most))
+    (choose (eqb tag 9) (scheduleOk (scheduleOf s body n)) true))))))
 
 -- the n child numbers from a place on are each below that of the node naming them; node i is the field with i + 2 fields before it
 unfoldable pub below : List ℕ → ℕ → ℕ → ℕ → Bool

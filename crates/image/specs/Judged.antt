@@ -8,9 +8,10 @@ use lib.Dec.{leb, ltb}
 use Rattle.runs.specs.Lines.{power}
 use Rattle.runs.specs.Nodes.{depth, visits}
 use Rattle.runs.specs.Runs.{Task as RunTask}
-use Rattle.image.specs.Bytes.{byteAt, wordAt}
-use Rattle.image.specs.Fields.{fieldOf, busOf}
-use Rattle.image.specs.Nodes.{treeAt, linesOf, taskOf}
+use Rattle.bytes.specs.Bytes.{wordAt}
+use Rattle.schedule.specs.Said.{said}
+use Rattle.image.specs.Fields.{fieldOf}
+use Rattle.image.specs.Nodes.{fieldAt, treeAt, linesOf, taskOf}
 use Rattle.image.specs.declared.Refusal.{Refusal}
 use Rattle.image.specs.declared.Refusal.the-variants.{Cut, Tag, Full, Length, Value, Forward, Unfinished, Deep, Long, Table, Register, Busy, Forbidden, Lines, Block}
 use Rattle.image.specs.declared.fields.Judgement.{Judgement}
@@ -85,10 +86,10 @@ wholeOf s n =
     refuseAll (ltb n 3) Unfinished (length s)
     (refuseAll (ltb 24 (depth (treeAt s (n - 3)))) Deep (length s)
     (refuseAll (ltb 100000 (visits (treeAt s (n - 3)))) Long (length s)
-    (refuseAll (ltb 1024 (byteAt s 3 * byteAt s 4 * power (linesOf s (n - 2)))) Lines (length s)
+    (refuseAll (ltb 1024 (said s .period * power (linesOf s (n - 2)))) Lines (length s)
     (Accepted (record {
-      bus = busOf s;
-      starts = wordAt s 7;
+      period = said s .period;
+      starts = wordAt s (fieldAt s 1 + 1);
       lines = linesOf s (n - 2);
       sets = power (linesOf s (n - 2));
       nodes = n - 2;

@@ -4,11 +4,10 @@ use mathlib.Core.Bool.{Bool, true, false}
 use mathlib.Core.List.{List}
 use Prim.Native.Nat.{ℕ, zero, suc, _+_, _/_}
 use lib.Dec.{eqb}
-use Rattle.runs.specs.Slots.{equal}
 use Rattle.runs.specs.Nodes.{Kind as RunKind, may, always, Node as RunNode, Tree, Trees, tree, trees, linesTo}
 use Rattle.runs.specs.Runs.{Task as RunTask}
-use Rattle.image.specs.Bytes.{byteAt, wordAt, bytes, words}
-use Rattle.bus.specs.Waits.{slotsOf}
+use Rattle.bytes.specs.Bytes.{byteAt, wordAt, bytes, words}
+use Rattle.schedule.specs.Said.{said}
 use Rattle.image.specs.declared.nodes.Kind.{Kind}
 use Rattle.image.specs.declared.nodes.Kind.the-variants.{May, Always}
 use Rattle.image.specs.declared.nodes.Node.{Node}
@@ -81,10 +80,10 @@ childTrees s place n = trees (λ k. tree (nodeAt s) k) (children s place n)
 abbrev pub linesOf : List ℕ → ℕ → ℕ
 linesOf s n = linesTo (nodeAt s) n
 
--- field 2: field 1 has six bytes, so its length stands at 7 and its body at 9
+-- field 2, which stands behind field 1, wherever that ends
 abbrev pub startsOf : List ℕ → List ℕ
-startsOf s = bytes s 9 (wordAt s 7)
+startsOf s = bytes s (fieldAt s 1 + 3) (wordAt s (fieldAt s 1 + 1))
 
 -- what an accepted image says: "The last node is the entry."
 abbrev pub taskOf : List ℕ → Task → RunTask
-taskOf s t = record { bus = equal (slotsOf (t .bus)); starts = startsOf s; lines = t .lines; nodeAt = nodeAt s; entry = t .entry }
+taskOf s t = record { bus = said s; starts = startsOf s; lines = t .lines; nodeAt = nodeAt s; entry = t .entry }

@@ -5,12 +5,11 @@ use Prim.Native.Nat.{ℕ, suc, _+_, _-_, _*_, _≤_, _<_}
 use lib.ListN.{length, getD}
 use Rattle.runs.specs.Lines.{power}
 use Rattle.runs.specs.Nodes.{depth, visits}
-use Rattle.image.specs.Bytes.{byteAt, wordAt}
-use Rattle.image.specs.Fields.{busOf}
+use Rattle.bytes.specs.Bytes.{byteAt, wordAt}
+use Rattle.schedule.specs.Said.{said, Ranged}
 use Rattle.image.specs.Nodes.{fieldAt, nodeOf, linesOf, treeAt}
 use Rattle.image.specs.Judged.{judged, outcomeOf, outcome}
-use Rattle.image.specs.Conditions.{Passed, Complete, Condition}
-use Rattle.bus.specs.Waits.{Ranges}
+use Rattle.image.specs.Conditions.{lengthAt, bodyAt, Passed, Complete, Condition}
 use Rattle.image.specs.declared.nodes.Node.{Node}
 use Rattle.image.specs.declared.nodes.Node.the-variants.{Plain, Bus as Block, Once, Sequence, Branch, Loop}
 use Rattle.image.specs.declared.Refusal.{Refusal}
@@ -18,12 +17,12 @@ use Rattle.image.specs.declared.Task.{Task}
 use Rattle.image.specs.declared.Verdict.{Verdict}
 use Rattle.image.specs.declared.Verdict.the-variants.{Accepted, Refused}
 
--- row 2: the n start offsets from place 9 on
+-- row 2: the n start offsets of field 2
 pub record Starts (s : List ℕ) (n period : ℕ) : Type 0 where
   pub some : 1 ≤ n
   pub few : n ≤ 256
-  pub low : (i : ℕ) → i < n → byteAt s (9 + i) < period
-  pub ascend : (i j : ℕ) → i < j → j < n → byteAt s (9 + i) < byteAt s (9 + j)
+  pub low : (i : ℕ) → i < n → byteAt s (bodyAt s 1 + i) < period
+  pub ascend : (i j : ℕ) → i < j → j < n → byteAt s (bodyAt s 1 + i) < byteAt s (bodyAt s 1 + j)
 
 -- the n child numbers from a place on are below `own`
 abbrev pub NamesBelow : List ℕ → ℕ → ℕ → ℕ → Type 0
@@ -38,18 +37,18 @@ pub record Durations (lowest highest : ℕ) : Type 0 where
 -- rows 3 to 7 and 10: the numbers of the node with the number `own`
 unfoldable pub Fine : List ℕ → ℕ → Node → Type 0
 Fine s own (Plain p) = Durations (p .lowest) (p .highest)
-Fine s own (Block b) = (1 ≤ b .lowest) × (b .lowest ≤ b .highest) × (b .highest ≤ byteAt s 4)
-Fine s own (Once x) = (x .line ≤ 3) × (1 ≤ x .lowest) × (x .lowest ≤ x .highest) × (x .highest ≤ byteAt s 4) × (x .hit ≤ 65535)
+Fine s own (Block b) = (1 ≤ b .lowest) × (b .lowest ≤ b .highest) × (b .highest ≤ said s .most) × (b .highest ≤ 255)
+Fine s own (Once x) = (x .line ≤ 3) × (1 ≤ x .lowest) × (x .lowest ≤ x .highest) × (x .highest ≤ said s .most) × (x .hit ≤ 65535) × (x .highest ≤ 255)
 Fine s own (Sequence c) = (1 ≤ c .count) × (c .count ≤ 16) × (c .place + 2 * c .count ≤ length s) × NamesBelow s (c .place) (c .count) own
 Fine s own (Branch c) = (2 ≤ c .count) × (c .count ≤ 8) × (c .place + 2 * c .count ≤ length s) × NamesBelow s (c .place) (c .count) own
 Fine s own (Loop l) = (l .least ≤ l .greatest) × (l .greatest ≤ 10000) × (l .body < own)
 
 -- what holds of an accepted image, its task and the places beside it
 pub record Sound (s : List ℕ) (t : Task) (places : List ℕ) : Type 0 where
-  pub bus-is : t .bus ≡ busOf s
-  pub bus : Ranges (t .bus)
-  pub starts-is : t .starts ≡ wordAt s 7
-  pub starts : Starts s (t .starts) (t .bus .cores * t .bus .slot)
+  pub period-is : t .period ≡ said s .period
+  pub ranged : Ranged s
+  pub starts-is : t .starts ≡ lengthAt s 1
+  pub starts : Starts s (t .starts) (said s .period)
   pub some : 1 ≤ t .nodes
   pub few : t .nodes ≤ 256
   pub last : t .nodes ≡ suc (t .entry)
@@ -62,7 +61,7 @@ pub record Sound (s : List ℕ) (t : Task) (places : List ℕ) : Type 0 where
   pub lines-is : t .lines ≡ linesOf s (t .nodes)
   pub lines-few : t .lines ≤ 4
   pub sets-is : t .sets ≡ power (t .lines)
-  pub narrow : t .bus .cores * t .bus .slot * t .sets ≤ 1024
+  pub narrow : t .period * t .sets ≤ 1024
 
 -- node n's field stands at a place, and it and all before it are good
 pub record Standing (s : List ℕ) (n at : ℕ) : Type 0 where

@@ -2,15 +2,20 @@
 use mathlib.Core.List.{List}
 use Prim.Native.Nat.{ℕ, _+_, _*_, _≤_}
 use lib.ListN.{length}
+use Rattle.runs.specs.Bus.{SameBus}
 use Rattle.runs.specs.Demand3.{Accepted}
+use Rattle.bus.specs.Owning.{busMeant, Fit}
+use Rattle.schedule.specs.Said.{said}
 use Rattle.image.specs.Nodes.{taskOf}
 use Rattle.image.specs.Promise.{NamesBelow, Sound}
-use Rattle.image.specs.declared.Task.{Task}
+use Rattle.image.specs.declared.Walk.{Walk}
 
--- what judging has shown of the image, its task and the places of its nodes
-pub record Walkable (s : List ℕ) (t : Task) (places : List ℕ) : Type 0 where
-  pub sound : Sound s t places
-  pub accepted : Accepted (taskOf s t)
+-- what judging has shown of the image, its task and the places of its nodes; and the bus is the one that the image says
+pub record Walkable (s : List ℕ) (k : Walk) (places : List ℕ) : Type 0 where
+  pub sound : Sound s (k .task) places
+  pub accepted : Accepted (taskOf s (k .task))
+  pub fit : Fit (k .bus)
+  pub same : SameBus (busMeant (k .bus)) (said s)
 
 -- n child numbers from a place on stand in the image, and are below `own`
 pub record Named (s : List ℕ) (place n own : ℕ) : Type 0 where

@@ -5,10 +5,10 @@
 // condition of that row of the table holds there; and an accepted image keeps every rule of its rows, with the place of each node
 // beside the verdict. For a refused image the places are left free.
 //
-// specs/ has the definitions, in the document's order: Bytes, Fields (the rows, and numbers 1 to 6), Nodes (what a node field means
+// specs/ has the definitions, in the document's order: Fields (the rows, and numbers 1 to 6; field 1's are in crate schedule), Nodes (what a node field means
 // to crate `runs`), Judged (7 to 9 and 18, and the verdict), Conditions (the table, row by row), Promise; Inner is between functions of this
 // crate.
-// src/: read (bytes), rows (the rows' rules), fields (the scan), nodes (decoding), weigh (depth and visits), fetched (lines), and the verdict here.
+// src/: read (bytes, and the bus), rows (the rows' rules), fields (the scan), nodes (decoding), weigh (depth and visits), fetched (lines), and the verdict here.
 ghost use mathlib.Core.Path.{_≡_};
 ghost use Rattle.image.specs.Judged.{wholeOf, numberOf};
 ghost use Rattle.image.specs.Conditions.{Complete};
@@ -18,15 +18,14 @@ use crate::fetched::lines;
 use crate::fetched::power;
 use crate::fields::End;
 use crate::fields::fields;
-use crate::read::bus_at;
-use crate::read::word;
 use crate::weigh::weights;
 use bus::Bus;
+use bytes::word;
+use schedule::period_at;
 
 pub mod fetched;
 mod fields;
 pub mod nodes;
-pub mod read;
 pub mod rows;
 mod weigh;
 
@@ -50,15 +49,21 @@ pub enum Refusal {
     Block,
 }
 
-// An accepted image: the bus of field 1, the number of start offsets in field 2, the number of lines and of sets of
+// An accepted image: the period of the bus, the number of start offsets in field 2, the number of lines and of sets of
 // lines, the number of nodes, and the last of them.
 pub struct Task {
-    pub bus: Bus,
+    pub period: usize,
     pub starts: usize,
     pub lines: usize,
     pub sets: usize,
     pub nodes: usize,
     pub entry: usize,
+}
+
+// What both walks go by: the bus, and the accepted image's numbers.
+pub struct Walk {
+    pub bus: Bus,
+    pub task: Task,
 }
 
 pub enum Verdict {
@@ -110,15 +115,15 @@ fn whole(image: &[u8], places: &[usize; 256], count: usize) -> Verdict
     if 100000 < w.visits {
         return Verdict::Refused(Refusal::Long, image.len());
     }
-    let bus = bus_at(image);
+    let period = period_at(image);
     let lines = lines(image, places, count - 2);
     let sets = power(lines);
-    if 1024 < bus.cores * bus.slot * sets {
+    if 1024 < period * sets {
         return Verdict::Refused(Refusal::Lines, image.len());
     }
     Verdict::Accepted(Task {
-        bus,
-        starts: word(image, 7),
+        period,
+        starts: word(image, 4 + word(image, 1)),
         lines,
         sets,
         nodes: count - 2,

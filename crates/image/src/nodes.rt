@@ -3,8 +3,8 @@ ghost use mathlib.Core.Path.{_≡_};
 ghost use Prim.Native.Nat.{_≤_};
 ghost use lib.ListN.{length};
 ghost use Rattle.image.specs.Nodes.{kindOf, nodeOf};
-use crate::read::byte;
-use crate::read::word;
+use bytes::byte;
+use bytes::word;
 
 // A bus block's kind: 1 may access, 2 always accesses.
 pub enum Kind {

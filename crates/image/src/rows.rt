@@ -1,27 +1,22 @@
 // The rows of the table of fields: tag, body length, the rules of the body's numbers (5), and child numbers (6).
 ghost use mathlib.Core.Path.{_≡_};
 ghost use Prim.Native.Nat.{_+_, _*_, _<_};
-ghost use Rattle.image.specs.Fields.{within, evenWithin, tagOk, lengthOk, busOk, startsOk, plainOk, accessOk, blockOk, onceOk, loopOk, valueOk, below, childrenOk};
-use crate::read::bus_at;
-use crate::read::byte;
-use crate::read::word;
+ghost use Rattle.schedule.specs.Said.{Ranged};
+ghost use Rattle.image.specs.Fields.{parityWithin, tagOk, lengthOk, startsOk, plainOk, accessOk, blockOk, onceOk, loopOk, valueOk, below, childrenOk};
+use bytes::byte;
+use bytes::word;
+use schedule::between;
+use schedule::bus_ok;
+use schedule::most_at;
+use schedule::period_at;
+use schedule::schedule_ok;
 
-// Is n from low to high?
-fn between(low: usize, high: usize, n: usize) -> bool
-    ensures { λ r. ⌜ r ≡ within low high n ⌝ }
-{
-    if low <= n {
-        return n <= high;
-    }
-    false
-}
-
-// Is n even, and from low to high?
-fn even_between(low: usize, high: usize, n: usize) -> bool
-    ensures { λ r. ⌜ r ≡ evenWithin low high n ⌝ }
+// Is n from low to high, and even, or odd where `odd` is 1?
+fn parity_between(odd: usize, low: usize, high: usize, n: usize) -> bool
+    ensures { λ r. ⌜ r ≡ parityWithin odd low high n ⌝ }
 {
     if between(low, high, n) {
-        return n % 2 == 0;
+        return n % 2 == odd;
     }
     false
 }
@@ -31,6 +26,9 @@ pub fn tag_ok(index: usize, tag: usize) -> bool
     ensures { λ r. ⌜ r ≡ tagOk index tag ⌝ }
 {
     if index == 0 {
+        if tag == 9 {
+            return true;
+        }
         return tag == 1;
     }
     if index == 1 {
@@ -51,28 +49,13 @@ pub fn length_ok(tag: usize, len: usize) -> bool
         1 | 4 => len == 3,
         2 => between(1, 256, len),
         3 => len == 4,
-        5 => even_between(2, 32, len),
-        6 => even_between(4, 16, len),
+        5 => parity_between(0, 2, 32, len),
+        6 => parity_between(0, 4, 16, len),
         7 => len == 6,
         10 => len == 5,
+        9 => parity_between(1, 3, 65, len),
         _ => false,
     }
-}
-
-// Are these numbers of a bus in the ranges of tag 1? Any numbers may be asked about: a reset of the arbiter passes on what it is given.
-pub fn bus_ok(cores: usize, slot: usize, core: usize) -> bool
-    ensures { λ r. ⌜ r ≡ busOk cores slot core ⌝ }
-{
-    if !between(2, 16, cores) {
-        return false;
-    }
-    if !between(1, 128, slot) {
-        return false;
-    }
-    if cores <= core {
-        return false;
-    }
-    cores * slot <= 256
 }
 
 // Are the `count` bytes from a place on each below the period, and each above the one before it?
@@ -110,8 +93,8 @@ pub fn plain_ok(lowest: usize, highest: usize) -> bool
 }
 
 // May an access have these durations?
-fn access_ok(lowest: usize, highest: usize, slot: usize) -> bool
-    ensures { λ r. ⌜ r ≡ accessOk lowest highest slot ⌝ }
+fn access_ok(lowest: usize, highest: usize, most: usize) -> bool
+    ensures { λ r. ⌜ r ≡ accessOk lowest highest most ⌝ }
 {
     if lowest < 1 {
         return false;
@@ -119,20 +102,23 @@ fn access_ok(lowest: usize, highest: usize, slot: usize) -> bool
     if highest < lowest {
         return false;
     }
-    highest <= slot
+    if 255 < highest {
+        return false;
+    }
+    highest <= most
 }
 
-fn block_ok(kind: usize, lowest: usize, highest: usize, slot: usize) -> bool
-    ensures { λ r. ⌜ r ≡ blockOk kind lowest highest slot ⌝ }
+fn block_ok(kind: usize, lowest: usize, highest: usize, most: usize) -> bool
+    ensures { λ r. ⌜ r ≡ blockOk kind lowest highest most ⌝ }
 {
     if !between(1, 2, kind) {
         return false;
     }
-    access_ok(lowest, highest, slot)
+    access_ok(lowest, highest, most)
 }
 
-fn once_ok(line: usize, lowest: usize, highest: usize, hit: usize, slot: usize) -> bool
-    ensures { λ r. ⌜ r ≡ onceOk line lowest highest hit slot ⌝ }
+fn once_ok(line: usize, lowest: usize, highest: usize, hit: usize, most: usize) -> bool
+    ensures { λ r. ⌜ r ≡ onceOk line lowest highest hit most ⌝ }
 {
     if 3 < line {
         return false;
@@ -140,7 +126,7 @@ fn once_ok(line: usize, lowest: usize, highest: usize, hit: usize, slot: usize) 
     if 65535 < hit {
         return false;
     }
-    access_ok(lowest, highest, slot)
+    access_ok(lowest, highest, most)
 }
 
 fn loop_ok(least: usize, greatest: usize) -> bool
@@ -154,7 +140,7 @@ fn loop_ok(least: usize, greatest: usize) -> bool
 
 // Do the body's numbers keep the rules of the tag's row? The body of `len` bytes stands at `body`.
 pub fn value_ok(image: &[u8], tag: usize, body: usize, len: usize) -> bool
-    requires { ⌜ (body + len < 18446744073709551615) × (body + 6 < 18446744073709551615) ⌝ }
+    requires { ⌜ (body + len < 18446744073709551615) × (body + 6 < 18446744073709551615) × (¬ (tag ≡ 1) → ¬ (tag ≡ 9) → Ranged (now image)) ⌝ }
     ensures { λ r. ⌜ r ≡ valueOk (now (image .entry)) tag body len ⌝ }
 {
     match tag {
@@ -163,31 +149,23 @@ pub fn value_ok(image: &[u8], tag: usize, body: usize, len: usize) -> bool
             byte(image, body + 1),
             byte(image, body + 2),
         ),
-        2 => {
-            let bus = bus_at(image);
-            starts_ok(image, body, len, bus.cores * bus.slot)
-        }
+        2 => starts_ok(image, body, len, period_at(image)),
         3 => plain_ok(word(image, body), word(image, body + 2)),
-        4 => {
-            let bus = bus_at(image);
-            block_ok(
-                byte(image, body),
-                byte(image, body + 1),
-                byte(image, body + 2),
-                bus.slot,
-            )
-        }
+        4 => block_ok(
+            byte(image, body),
+            byte(image, body + 1),
+            byte(image, body + 2),
+            most_at(image),
+        ),
         7 => loop_ok(word(image, body), word(image, body + 2)),
-        10 => {
-            let bus = bus_at(image);
-            once_ok(
-                byte(image, body),
-                byte(image, body + 1),
-                byte(image, body + 2),
-                word(image, body + 3),
-                bus.slot,
-            )
-        }
+        10 => once_ok(
+            byte(image, body),
+            byte(image, body + 1),
+            byte(image, body + 2),
+            word(image, body + 3),
+            most_at(image),
+        ),
+        9 => schedule_ok(image, body, len),
         _ => true,
     }
 }

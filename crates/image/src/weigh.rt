@@ -7,7 +7,7 @@ ghost use Rattle.image.specs.Promise.{NamesBelow, Standing};
 ghost use Rattle.image.specs.Inner.{Placed, Weighed, Together, Weighs};
 use crate::nodes::Node;
 use crate::nodes::node_at;
-use crate::read::word;
+use bytes::word;
 
 pub struct Weight {
     pub depth: usize,

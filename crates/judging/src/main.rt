@@ -1,10 +1,10 @@
 // judging: judges the images on standard input, one after another, and writes one line for each: its number from 1 on, and `accepted`, or
 // `refused` with the number and the place of document 01 ("When no figure is given"). Each image follows its length, two bytes, high byte first.
 // tests/make-judging makes the input and the expected lines, and names each case.
+use bytes::word;
 use image::Verdict;
 use image::judge;
 use image::number;
-use image::read::word;
 use libc::STDIN_FILENO;
 use libc::STDOUT_FILENO;
 

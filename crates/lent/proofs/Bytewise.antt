@@ -9,7 +9,7 @@ use lib.Dec.{leb, eqb}
 use Prim.Native.Nat.{ℕ, _≤_, _<_}
 use Rattle.image.specs.Judged.{numberOf}
 use Rattle.image.specs.declared.Refusal.{Refusal}
-use Rattle.image.proofs.Numbers.{both}
+use Rattle.schedule.proofs.Numbers.{both}
 use Rattle.arbiter.specs.declared.Call.{Call}
 use Rattle.arbiter.specs.Calls.{after, answer, Told, done, refused, told}
 use Rattle.callers.specs.Callers.{outcomeBy, afterBy, answerBy, afterAllBy, answersTo, concerningBy}

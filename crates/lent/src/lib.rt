@@ -16,15 +16,15 @@ ghost use Rattle.image.specs.Judged.{numberOf};
 ghost use Rattle.arbiter.specs.Calls.{told};
 ghost use Rattle.lent.specs.Answers.{doneInto, refusedInto};
 ghost use Rattle.lent.specs.OnBytes.{room, toldInto, arbiterInto, arbiterCall, WholeCall};
-use crate::bytes::BYTES;
-use crate::bytes::put_state;
-use crate::bytes::state_of;
+use crate::state_bytes::BYTES;
+use crate::state_bytes::put_state;
+use crate::state_bytes::state_of;
 use arbiter::Call;
 use arbiter::Outcome;
 use arbiter::Reply;
 use image::Refusal;
 
-mod bytes;
+mod state_bytes;
 
 // Status: accepted, the edit or the call to the arbiter is done, or the figures or finishes are given.
 pub const DONE: u64 = 0;

@@ -1,7 +1,7 @@
 -- A row of a table, and all rows.
 use mathlib.Core.Path.{_≡_, refl, sym, _∙_, ap, ap₂, subst}
 use mathlib.Core.Bool.{Bool, true, false, cond}
-use mathlib.Core.Option.{none, some}
+use mathlib.Core.Option.{none}
 use mathlib.Core.List.{List, [], _∷_}
 use lib.ListN.{getD, length, take, drop}
 use lib.Dec.{eqb}
@@ -9,7 +9,7 @@ use borrow.Author.Tests.{eqb-true, eqb-false, ne-eqb, eq-eqb}
 use native.Mathlib.Nat.{add-div-right, div-eq-of-lt, div-eq-sub-div, zero-add, suc-add, not-suc-le-zero, le-of-suc-le-suc, mod-lt, div-add-mod', div-lt-iff-lt-mul, suc-mul, add-mul, one-mul, mul-le-mul-right}
 use native.Mathlib.Omega.{arith}
 use Prim.Native.Nat.{ℕ, zero, suc, _+_, _*_, _-_, _/_, _%_, _≤_, _<_}
-use Rattle.runs.specs.Slots.{equal}
+use Rattle.runs.specs.Schedules.{owning}
 use Rattle.runs.specs.Lines.{power, has}
 use Rattle.runs.specs.Clock.{offsets, withLines}
 use Rattle.runs.specs.Nodes.{Tree, may, always}
@@ -22,12 +22,13 @@ use Rattle.runs.proofs.Cases.{split, either}
 use Rattle.runs.proofs.LinesLaws.{within, low, power-pos}
 use Rattle.runs.proofs.Rows.{below-rows, below-only, plain-row, bus-row, once-row, once-left, plain-still, bus-still}
 use Rattle.bus.specs.declared.Bus.{Bus}
-use Rattle.bus.specs.Waits.{slotsOf, Ranges}
-use Rattle.times.specs.Arrays.{noTime, timeOf, tableOf, Fits, Stepped, Joined, Put}
+use Rattle.bus.specs.Owning.{busMeant, Fit}
+use Rattle.times.specs.Arrays.{noTime, timeOf, tableOf, Fits, Joined, Put}
+use Rattle.steps.specs.Steps.{Stepped}
 use Rattle.times.proofs.Tables.{time-none, tableOf-at}
 use Rattle.lined.specs.declared.Step.{Step}
 use Rattle.lined.specs.declared.Step.the-variants.{Plain, May, Always}
-use Rattle.lined.specs.Lined.{periodAt, blockOf, rowAt, FitsFrom, SteppedRow, lined, SteppedAll, Fetched, Visited, RowsReady}
+use Rattle.lined.specs.Lined.{blockOf, rowAt, FitsFrom, SteppedRow, lined, SteppedAll, Fetched, Visited, RowsReady}
 
 -- ---- a part of a list
 
@@ -72,10 +73,10 @@ still d = refl
 
 module _ (b : Bus) where
   abbrev P : ℕ
-  P = periodAt b
+  P = b .period
 
   abbrev pub flat : Tree → List Time → List Time
-  flat x T = times (equal (slotsOf b)) (offsets P) x T
+  flat x T = times (busMeant b) (offsets P) x T
 
   pub part-table : (n at : ℕ) (t : List ℕ) → n ≡ P → tableOf P (take n (drop at t)) ≡ rowAt P at t
   unfolding tableOf
@@ -101,9 +102,9 @@ module _ (b : Bus) where
   row-none at t h o l = row-at P (λ o. timeOf (getD t (at + o) 0)) o none l ∙ time-none _ (h o l)
 
   still-flat : (s : Step) (lo hi : ℕ) (T : List Time) → ((o : ℕ) → o < P → getD T o none ≡ none) → (o : ℕ) → o < P → getD (flat (blockOf s lo hi) T) o none ≡ none
-  still-flat Plain lo hi T h o l = plain-still none longer longer-joins later still (equal (slotsOf b)) (offsets P) lo hi T h o l
-  still-flat May lo hi T h o l = bus-still none longer longer-joins later still (equal (slotsOf b)) (offsets P) may lo hi T h o l
-  still-flat Always lo hi T h o l = bus-still none longer longer-joins later still (equal (slotsOf b)) (offsets P) always lo hi T h o l
+  still-flat Plain lo hi T h o l = plain-still none longer longer-joins later still (busMeant b) (offsets P) lo hi T h o l
+  still-flat May lo hi T h o l = bus-still none longer longer-joins later still (busMeant b) (offsets P) may lo hi T h o l
+  still-flat Always lo hi T h o l = bus-still none longer longer-joins later still (busMeant b) (offsets P) always lo hi T h o l
 
   pub still-row : (s : Step) (lo hi n at : ℕ) (t : List ℕ) → n ≡ P → ((o : ℕ) → o < P → getD (take n (drop at t)) o 0 ≡ noTime)
       → SteppedRow b (blockOf s lo hi) at t t
@@ -116,8 +117,8 @@ module _ (b : Bus) where
         after = λ p l. refl;
       }
 
-  pub period-pos : Ranges b → 0 < P
-  period-pos r = omega (arith, mul-le-mul-right (b .slot) (r .cores-least), r .slot-least)
+  pub period-pos : Fit b → 0 < P
+  period-pos r = r .least
 
   -- ---- all rows
 
@@ -135,19 +136,19 @@ module _ (b : Bus) where
         inside m o l k = omega (arith, within P pos (power n) m o l k)
 
     all-at : (s : Step) (lo hi : ℕ) (t : List ℕ) (m o : ℕ) → m < power n → o < P
-        → getD (times (equal (slotsOf b)) (withLines P n) (blockOf s lo hi) (lined b n t)) (m * P + o) none ≡ getD (flat (blockOf s lo hi) (rowAt P (m * P) t)) o none
-    unfolding equal
+        → getD (times (busMeant b) (withLines P n) (blockOf s lo hi) (lined b n t)) (m * P + o) none ≡ getD (flat (blockOf s lo hi) (rowAt P (m * P) t)) o none
+    unfolding owning
     all-at s lo hi t m o l k = go s ∙ ap (λ (T : List Time). getD (flat (blockOf s lo hi) T) o none) (row-of t m l)
       where
-        go : (s : Step) → getD (times (equal (slotsOf b)) (withLines P n) (blockOf s lo hi) (lined b n t)) (m * P + o) none
+        go : (s : Step) → getD (times (busMeant b) (withLines P n) (blockOf s lo hi) (lined b n t)) (m * P + o) none
             ≡ getD (flat (blockOf s lo hi) (rowOf none P m (lined b n t))) o none
-        go Plain = plain-row none longer longer-joins later still (equal (slotsOf b)) pos n lo hi (lined b n t) m o l k
-        go May = bus-row none longer longer-joins later still (equal (slotsOf b)) pos n may lo hi (lined b n t) m o l k
-        go Always = bus-row none longer longer-joins later still (equal (slotsOf b)) pos n always lo hi (lined b n t) m o l k
+        go Plain = plain-row none longer longer-joins later still (busMeant b) pos n lo hi (lined b n t) m o l k
+        go May = bus-row none longer longer-joins later still (busMeant b) pos n may lo hi (lined b n t) m o l k
+        go Always = bus-row none longer longer-joins later still (busMeant b) pos n always lo hi (lined b n t) m o l k
 
     from-each : (s : Step) (lo hi : ℕ) (t r : List ℕ)
-        → ((p : ℕ) → p < power n * P → timeOf (getD r p 0) ≡ getD (times (equal (slotsOf b)) (withLines P n) (blockOf s lo hi) (lined b n t)) p none)
-        → lined b n r ≡ times (equal (slotsOf b)) (withLines P n) (blockOf s lo hi) (lined b n t)
+        → ((p : ℕ) → p < power n * P → timeOf (getD r p 0) ≡ getD (times (busMeant b) (withLines P n) (blockOf s lo hi) (lined b n t)) p none)
+        → lined b n r ≡ times (busMeant b) (withLines P n) (blockOf s lo hi) (lined b n t)
     unfolding carried tableOf withLines
     from-each Plain lo hi t r h = row-same (power n * P) _ _ (λ p l. h p l ∙ row-at (power n * P) _ p none l)
     from-each May lo hi t r h = row-same (power n * P) _ _ (λ p l. h p l ∙ row-at (power n * P) _ p none l)
@@ -159,11 +160,11 @@ module _ (b : Bus) where
         → SteppedAll b n (blockOf s lo hi) t r
     all-rows s lo hi t r e h = record { size = e; steps = from-each s lo hi t r each }
       where
-        each : (p : ℕ) → p < power n * P → timeOf (getD r p 0) ≡ getD (times (equal (slotsOf b)) (withLines P n) (blockOf s lo hi) (lined b n t)) p none
+        each : (p : ℕ) → p < power n * P → timeOf (getD r p 0) ≡ getD (times (busMeant b) (withLines P n) (blockOf s lo hi) (lined b n t)) p none
         each p l =
             let m : p / P < power n = div-lt-iff-lt-mul pos .1 l in
             let z : p / P * P + p % P ≡ p = div-add-mod' p P in
-            subst (λ (i : ℕ). timeOf (getD r i 0) ≡ getD (times (equal (slotsOf b)) (withLines P n) (blockOf s lo hi) (lined b n t)) i none) z
+            subst (λ (i : ℕ). timeOf (getD r i 0) ≡ getD (times (busMeant b) (withLines P n) (blockOf s lo hi) (lined b n t)) i none) z
             (h (p / P) (p % P) m (mod-lt _ pos) ∙ sym (all-at s lo hi t (p / P) (p % P) m (mod-lt _ pos)))
 
   -- one row more
@@ -305,19 +306,19 @@ module _ (b : Bus) where
   module _ (n : ℕ) (pos : 0 < P) (x : ℕ) (known : x < n) (lo hi hit : ℕ) (t₀ r : List ℕ)
       (done : (j : ℕ) → j < power n → j / power x % 2 ≡ 0 → Done lo hi hit (power x) t₀ r j) where
     abbrev Is : ℕ → Type 0
-    Is p = timeOf (getD r p 0) ≡ getD (times (equal (slotsOf b)) (withLines P n) (Tree.once x lo hi hit) (lined b n t₀)) p none
+    Is p = timeOf (getD r p 0) ≡ getD (times (busMeant b) (withLines P n) (Tree.once x lo hi hit) (lined b n t₀)) p none
 
     without-line : (m o : ℕ) → m < power n → o < P → has x m ≡ false → Is (m * P + o)
-    unfolding equal
+    unfolding owning
     without-line m o l k e =
         time-none _ (done m l (low-half x m e) o k .0)
-        ∙ sym (once-left none longer longer-joins later still (equal (slotsOf b)) pos n x known lo hi hit (lined b n t₀) m o l e k)
+        ∙ sym (once-left none longer longer-joins later still (busMeant b) pos n x known lo hi hit (lined b n t₀) m o l e k)
 
     with-line : (j o : ℕ) → j < power n → j + power x < power n → o < P → j / power x % 2 ≡ 0 → Is ((j + power x) * P + o)
-    unfolding equal
+    unfolding owning
     with-line j o l l' k e =
         done j l e o k .1
-        ∙ sym (once-row none longer longer-joins later still (equal (slotsOf b)) pos n x known lo hi hit (lined b n t₀) j o l (half-has x j e) k
+        ∙ sym (once-row none longer longer-joins later still (busMeant b) pos n x known lo hi hit (lined b n t₀) j o l (half-has x j e) k
         ∙ ap₂ longer
         (ap (λ (T : List Time). getD (flat (Tree.bus always lo hi) T) o none) (row-of n pos t₀ j l))
         (ap (λ (T : List Time). getD (flat (Tree.plain hit hit) T) o none) (row-of n pos t₀ (j + power x) l')))

@@ -7,9 +7,8 @@ use lib.ListN.{length, getD, take, drop, set, List·getD-append}
 use lib.Dec.{ltb}
 use lib.Seq.{take-all}
 use native.Mathlib.Omega.{arith}
-use Prim.Native.Nat.{ℕ, _*_, _≤_, _<_}
-use Rattle.runs.specs.Slots.{equal}
-use Rattle.image.specs.Bytes.{byteAt}
+use Prim.Native.Nat.{ℕ, _≤_, _<_}
+use Rattle.bytes.specs.Bytes.{byteAt}
 use Rattle.image.specs.Nodes.{taskOf}
 use Rattle.image.specs.Judged.{Outcome, outcomeOf, outcome, numberOf}
 use Rattle.image.specs.Promise.{Judging}
@@ -20,7 +19,7 @@ use Rattle.image.specs.declared.Verdict.the-variants.{Accepted, Refused}
 use Rattle.figures.specs.declared.Totals.{Totals}
 use Rattle.figures.specs.declared.Answer.{Answer}
 use Rattle.figures.specs.declared.Answer.the-variants.{Given, Refused as NotGiven}
-use Rattle.figures.specs.Answers.{Result, resultOf, periodOf}
+use Rattle.figures.specs.Answers.{Result, resultOf}
 use Rattle.figures.specs.WholeRuns.{WholeRuns}
 use Rattle.figures.specs.Promise.{Demand3}
 use Rattle.edits.specs.declared.Edited.{Edited}
@@ -62,12 +61,10 @@ module _ (s lent : List ℕ) where
         ap (λ (t : Bool). cond t (2, lent) (judgedInto (outcome s) lent)) (le-ltb (length lent) 2 long)
         ∙ ap (λ (o : Outcome). judgedInto o lent) (sym (j .numbered))
 
-    pub judge-accepted : (k : Task) (period : ℕ) (after : List ℕ) → v ≡ Accepted k → period ≡ k .bus .cores * k .bus .slot
-        → after ≡ 0 ∷ period ∷ drop 2 lent → judgeCall s lent ≡ (0, after)
-    unfolding equal
-    judge-accepted k period after e p h =
+    pub judge-accepted : (k : Task) (after : List ℕ) → v ≡ Accepted k → after ≡ 0 ∷ k .period ∷ drop 2 lent → judgeCall s lent ≡ (0, after)
+    judge-accepted k after e h =
         judge-is ∙ ap (λ (x : Verdict). judgedInto (outcomeOf s x) lent) e
-        ∙ ap (λ (n : ℕ). (0, 0 ∷ n ∷ drop 2 lent)) (sym p) ∙ ap (λ (l : List ℕ). (0, l)) (sym h)
+        ∙ ap (λ (n : ℕ). (0, 0 ∷ n ∷ drop 2 lent)) (sym (j .sound k e .period-is)) ∙ ap (λ (l : List ℕ). (0, l)) (sym h)
 
     pub judge-refused : (r : Refusal) (place : ℕ) (call : ℕ × List ℕ) → v ≡ Refused r place → refusedInto (numberOf r) place lent ≡ call
         → judgeCall s lent ≡ call
@@ -171,11 +168,11 @@ module _ (s : List ℕ) (node lo hi : ℕ) (before lent : List ℕ) where
       record { possible = λ z. by-answer a refl (ap (λ (x : ℕ × List ℕ). x .0) e ∙ z); given = λ d room long. when-possible d (omega (arith, room)) (omega (arith, long)); fresh = λ d. fresh d ∙ is }
     where
       by-answer : (x : Answer) → a ≡ x → told (resultOf x) lent .0 ≡ 0
-          → (d : Editable s node lo hi) × (periodOf (d .task) ≤ length before) × (3 ≤ length lent)
+          → (d : Editable s node lo hi) × (d .task .period ≤ length before) × (3 ≤ length lent)
       by-answer (Given t) q z = let w = p .possible t q in (w .0, omega (arith, w .1), omega (arith, enough))
       by-answer (NotGiven r place) q z = absurd (omega arith)
 
-      when-possible : (d : Editable s node lo hi) → periodOf (d .task) ≤ length before → 3 ≤ length lent → (status ≡ 0)
+      when-possible : (d : Editable s node lo hi) → d .task .period ≤ length before → 3 ≤ length lent → (status ≡ 0)
           × WholeRuns (taskOf (imageWith s node lo hi) (d .task)) (getD said 0 0) (getD said 1 0) (getD said 2 0) table
       when-possible d room long =
           let q = f d room in

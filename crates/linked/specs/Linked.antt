@@ -14,7 +14,7 @@ use Rattle.image.specs.Nodes.{taskOf}
 use Rattle.image.specs.Judged.{Outcome, accepted, refused as rejected, judged, outcome}
 use Rattle.image.specs.declared.Task.{Task}
 use Rattle.image.specs.declared.Verdict.the-variants.{Accepted}
-use Rattle.figures.specs.Answers.{Result, given, refused, periodOf, answer, tableAfter}
+use Rattle.figures.specs.Answers.{Result, given, refused, answer, tableAfter}
 use Rattle.figures.specs.WholeRuns.{WholeRuns}
 use Rattle.edits.specs.Edits.{Change, done, refused as notDone, imageWith, change, imageAfter, previewOf, previewTable}
 use Rattle.edits.specs.Promise.{Editable, Leaves}
@@ -73,8 +73,8 @@ previewCall image node lowest highest table lent =
 -- status 0 if and only if the edit is possible and there are places enough; then demand 3 holds of the edited image and the numbers that the
 -- program finds. Whatever the places, a possible edit's preview leaves what the figures of the edited image would
 pub record WholePreview (image : List ℕ) (node lowest highest : ℕ) (before lent : List ℕ) (status : ℕ) (table found : List ℕ) : Type 0 where
-  pub possible : status ≡ 0 → (e : Editable image node lowest highest) × (periodOf (e .task) ≤ length before) × (3 ≤ length lent)
-  pub given : (e : Editable image node lowest highest) → periodOf (e .task) ≤ length before → 3 ≤ length lent → (status ≡ 0)
+  pub possible : status ≡ 0 → (e : Editable image node lowest highest) × (e .task .period ≤ length before) × (3 ≤ length lent)
+  pub given : (e : Editable image node lowest highest) → e .task .period ≤ length before → 3 ≤ length lent → (status ≡ 0)
       × WholeRuns (taskOf (imageWith image node lowest highest) (e .task)) (getD found 0 0) (getD found 1 0) (getD found 2 0) table
   pub fresh : Editable image node lowest highest → figuresCall (imageWith image node lowest highest) before lent ≡ (status, table, found)
 

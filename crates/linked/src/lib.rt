@@ -51,8 +51,7 @@ pub extern "C" fn slotfigures_judge(image: &[u8], answer: &mut [u64]) -> u64
     let verdict = judged.verdict;
     match verdict {
         Verdict::Accepted(k) => {
-            let period = bus::period(k.bus);
-            put(answer, 0, period as u64);
+            put(answer, 0, k.period as u64);
             DONE
         }
         Verdict::Refused(r, place) => refuse(answer, r, place),

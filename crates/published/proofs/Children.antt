@@ -1,39 +1,38 @@
 -- One child of a sequence or a branch: the walk may be asked of it, and the rest goes on from it.
-use mathlib.Core.Path.{_≡_, refl, sym, _∙_, ap}
+use mathlib.Core.Path.{_≡_, sym, _∙_, ap}
 use mathlib.Core.Bool.{Bool, false, _||_}
 use mathlib.Core.List.{List}
 use lib.ListN.{getD}
 use lib.Bits.{bitOr}
 use native.Mathlib.Omega.{arith}
 use Prim.Native.Nat.{ℕ, _+_, _-_, _*_, _≤_, _<_, max}
-use Rattle.runs.specs.Slots.{equal}
 use Rattle.runs.specs.Nodes.{visits, visitsAll}
 use Rattle.runs.specs.Figures.{cost, costAll, costAny}
 use Rattle.runs.proofs.Joins.{or-joins}
 use Rattle.runs.proofs.Bounds.{cost-bounded}
-use Rattle.bus.specs.Waits.{slotsOf}
+use Rattle.bus.specs.Owning.{busMeant}
 use Rattle.offsets.specs.declared.Set.{Set}
 use Rattle.offsets.specs.Sets.{value}
-use Rattle.image.specs.Bytes.{wordAt}
+use Rattle.bytes.specs.Bytes.{wordAt}
 use Rattle.image.specs.Nodes.{treeAt, childTrees}
 use Rattle.image.specs.Walks.{Walkable, Named}
-use Rattle.image.specs.declared.Task.{Task}
-use Rattle.image.proofs.Walks.{all-more, any-more, valid-at}
+use Rattle.image.specs.declared.Walk.{Walk}
+use Rattle.image.proofs.Walks.{all-more, any-more, walk-lawful, walk-small, valid-at}
 use Rattle.image.proofs.Levels.{visits-step}
-use Rattle.exits.specs.Exits.{bitsOf, busPeriod, Within}
-use Rattle.published.specs.Steps.{bits, after, afterAll, afterAny, Ready, Published}
+use Rattle.exits.specs.Exits.{Within}
+use Rattle.published.specs.Steps.{bits, afterAll, afterAny, Ready, Published}
 use Rattle.published.specs.declared.Outcome.{Outcome}
 use Rattle.published.proofs.Joins.{join-at}
 use Rattle.published.proofs.Parts.{cost-all-more, cost-any-more}
 
 -- a node's cost is at most 65,535 for each visit
-pub outcome-small : (s : List ℕ) (k : Task) (places : List ℕ) → Walkable s k places → (node : ℕ) → node ≤ k .entry → (x : Set) (r : Outcome)
+pub outcome-small : (s : List ℕ) (k : Walk) (places : List ℕ) → Walkable s k places → (node : ℕ) → node ≤ k .task .entry → (x : Set) (r : Outcome)
     → Published (k .bus) (treeAt s node) x r → r .cost ≤ 65535 * visits (treeAt s node)
 outcome-small s k places w node low x r h =
     rw (h .costs)
-    (cost-bounded (equal (slotsOf (k .bus))) (w .accepted .lawful) (w .accepted .small) (treeAt s node) (valid-at s k places w node low) (bits (k .bus) x))
+    (cost-bounded (busMeant (k .bus)) (walk-lawful s k places w) (walk-small s k places w) (treeAt s node) (valid-at s k places w node low) (bits (k .bus) x))
 
-module _ (s : List ℕ) (k : Task) (places : List ℕ) (w : Walkable s k places) (node : ℕ) (low : node ≤ k .entry)
+module _ (s : List ℕ) (k : Walk) (places : List ℕ) (w : Walkable s k places) (node : ℕ) (low : node ≤ k .task .entry)
     (p n : ℕ) (named : Named s p n node) (i : ℕ) (h : i < n) (child : ℕ) (is : child ≡ wordAt s (p + 2 * i)) where
   -- the visits of the children from j on
   abbrev ahead : ℕ → ℕ
@@ -45,7 +44,7 @@ module _ (s : List ℕ) (k : Task) (places : List ℕ) (w : Walkable s k places)
   pub visits-split : ahead i ≡ visits (treeAt s child) + ahead (i + 1)
   visits-split = rw is (visits-step s p n i h)
 
-  pub child-ready : (x : Set) → ahead i ≤ 100000 → Within (busPeriod (k .bus)) x → Ready s k places child x
+  pub child-ready : (x : Set) → ahead i ≤ 100000 → Within (k .bus .period) x → Ready s k places child x
   child-ready x few within = record {
     walkable = w;
     low = omega (arith, child-low);
@@ -66,14 +65,14 @@ module _ (s : List ℕ) (k : Task) (places : List ℕ) (w : Walkable s k places)
         ∙ sym (all-more _ _ false _||_ (λ d v. v) s p n i h (bits (k .bus) x))
 
     pub next-cost :
-        costAll (equal (slotsOf (k .bus))) (childTrees s (p + 2 * i) (n - i)) (bits (k .bus) x)
-        ≡ r .cost + costAll (equal (slotsOf (k .bus))) (childTrees s (p + 2 * (i + 1)) (n - (i + 1))) (bits (k .bus) (r .exits))
+        costAll (busMeant (k .bus)) (childTrees s (p + 2 * i) (n - i)) (bits (k .bus) x)
+        ≡ r .cost + costAll (busMeant (k .bus)) (childTrees s (p + 2 * (i + 1)) (n - (i + 1))) (bits (k .bus) (r .exits))
     next-cost =
-        cost-all-more (equal (slotsOf (k .bus))) s p n i h (bits (k .bus) x)
+        cost-all-more (busMeant (k .bus)) s p n i h (bits (k .bus) x)
         ∙ sym (rw (e .costs, e .exited .bits, is))
 
     -- a branch has one arm more
-    pub next-arm : (out both : Set) → value both ≡ bitOr (value out) (value (r .exits)) → (o : ℕ) → o < busPeriod (k .bus)
+    pub next-arm : (out both : Set) → value both ≡ bitOr (value out) (value (r .exits)) → (o : ℕ) → o < k .bus .period
         → (getD (bits (k .bus) both) o false || afterAny (k .bus) (childTrees s (p + 2 * (i + 1)) (n - (i + 1))) (bits (k .bus) x) o)
         ≡ (getD (bits (k .bus) out) o false || afterAny (k .bus) (childTrees s (p + 2 * i) (n - i)) (bits (k .bus) x) o)
     next-arm out both j o l =
@@ -86,8 +85,8 @@ module _ (s : List ℕ) (k : Task) (places : List ℕ) (w : Walkable s k places)
         ∙ sym (any-more _ _ false _||_ (λ d v. v) s p n i h (bits (k .bus) x) o))
 
     pub next-arm-cost :
-        costAny (equal (slotsOf (k .bus))) (childTrees s (p + 2 * i) (n - i)) (bits (k .bus) x)
-        ≡ max (r .cost) (costAny (equal (slotsOf (k .bus))) (childTrees s (p + 2 * (i + 1)) (n - (i + 1))) (bits (k .bus) x))
+        costAny (busMeant (k .bus)) (childTrees s (p + 2 * i) (n - i)) (bits (k .bus) x)
+        ≡ max (r .cost) (costAny (busMeant (k .bus)) (childTrees s (p + 2 * (i + 1)) (n - (i + 1))) (bits (k .bus) x))
     next-arm-cost =
-        cost-any-more (equal (slotsOf (k .bus))) s p n i h (bits (k .bus) x)
+        cost-any-more (busMeant (k .bus)) s p n i h (bits (k .bus) x)
         ∙ sym (rw (e .costs, is))

@@ -3,11 +3,11 @@ use mathlib.Core.Path.{_≡_}
 use mathlib.Core.List.{List}
 use lib.ListN.{length, getD}
 use native.Mathlib.Omega.{arith}
-use Prim.Native.Nat.{ℕ, _+_, _*_, _≤_, _<_}
+use Prim.Native.Nat.{ℕ, _≤_, _<_}
 use Rattle.runs.specs.Nodes.{Tree, visits}
 use Rattle.offsets.specs.declared.Set.{Set}
 use Rattle.image.specs.Nodes.{nodeOf, kindMeant, treeAt, childTrees}
-use Rattle.image.specs.declared.Task.{Task}
+use Rattle.image.specs.declared.Walk.{Walk}
 use Rattle.image.specs.declared.nodes.Node.the-variants.{Plain, Bus as Block, Once, Sequence, Branch, Loop}
 use Rattle.image.specs.declared.nodes.Plain.{Plain as PlainNumbers}
 use Rattle.image.specs.declared.nodes.BusBlock.{BusBlock}
@@ -20,7 +20,7 @@ use Rattle.published.specs.declared.Outcome.{Outcome}
 use Rattle.published.specs.Steps.{Ready, ReadyAll, ReadyRepeat, Published, PublishedAll, PublishedAny}
 use Rattle.published.proofs.Parts.{as-all, as-any}
 
-module _ (s : List ℕ) (k : Task) (places : List ℕ) (node : ℕ) (x : Set) (r : Ready s k places node x) where
+module _ (s : List ℕ) (k : Walk) (places : List ℕ) (node : ℕ) (x : Set) (r : Ready s k places node x) where
   pub in-image : getD places node 0 ≤ length s
   in-image = node-place s k places (r .walkable) node (r .low) .0
 
@@ -32,7 +32,7 @@ module _ (s : List ℕ) (k : Task) (places : List ℕ) (node : ℕ) (x : Set) (r
     pub plain-ready : PlainReady (k .bus) (p .lowest) (p .highest) x
     plain-ready =
         let h = as-plain s k places (r .walkable) node (r .low) p e in
-        record { ranges = r .walkable .sound .bus; ordered = h .1; most = h .2; within = r .within }
+        record { fit = r .walkable .fit; ordered = h .1; most = h .2; within = r .within }
 
     pub plain-done : (q : Outcome) → Published (k .bus) (Tree.plain (p .lowest) (p .highest)) x q → Published (k .bus) (treeAt s node) x q
     plain-done q h = rw (as-plain s k places (r .walkable) node (r .low) p e .0) h
@@ -42,7 +42,7 @@ module _ (s : List ℕ) (k : Task) (places : List ℕ) (node : ℕ) (x : Set) (r
     pub block-ready : BusReady (k .bus) (y .lowest) (y .highest) x
     block-ready =
         let h = as-block s k places (r .walkable) node (r .low) y e in
-        record { ranges = r .walkable .sound .bus; least = h .1; ordered = h .2; most = h .3; within = r .within }
+        record { fit = r .walkable .fit; least = h .1; ordered = h .2; most = h .3; within = r .within }
 
     pub block-done : (q : Outcome) → Published (k .bus) (Tree.bus (kindMeant (y .kind)) (y .lowest) (y .highest)) x q → Published (k .bus) (treeAt s node) x q
     block-done q h = rw (as-block s k places (r .walkable) node (r .low) y e .0) h
@@ -52,7 +52,7 @@ module _ (s : List ℕ) (k : Task) (places : List ℕ) (node : ℕ) (x : Set) (r
     pub once-ready : BusReady (k .bus) (y .lowest) (y .highest) x × (y .hit ≤ 65535)
     once-ready =
         let h = as-once s k places (r .walkable) node (r .low) y e in
-        (record { ranges = r .walkable .sound .bus; least = h .1; ordered = h .2; most = h .3; within = r .within }, h .4)
+        (record { fit = r .walkable .fit; least = h .1; ordered = h .2; most = h .3; within = r .within }, h .4)
 
     pub once-done : (q : Outcome) → Published (k .bus) (Tree.once (y .line) (y .lowest) (y .highest) (y .hit)) x q → Published (k .bus) (treeAt s node) x q
     once-done q h = rw (as-once s k places (r .walkable) node (r .low) y e .0) h

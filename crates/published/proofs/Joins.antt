@@ -1,38 +1,37 @@
 -- Sets as bits: the empty set, a join, and what the unroller starts from.
 use mathlib.Core.Path.{_≡_, refl, sym, _∙_, ap}
-use mathlib.Core.Bool.{Bool, true, false, cond, _||_}
+use mathlib.Core.Bool.{Bool, false, cond, _||_}
 use mathlib.Core.List.{List}
 use lib.ListN.{getD}
-use lib.Dec.{leb}
 use lib.Bits.{bitOr, or-lt}
 use lib.Pow.{pow-pos}
 use borrow.Author.Tests.{le-leb, lt-leb}
 use native.Mathlib.Omega.{arith}
-use Prim.Native.Nat.{ℕ, _+_, _^_, _≤_, _<_}
+use Prim.Native.Nat.{ℕ, _+_, _≤_, _<_}
 use Rattle.runs.proofs.Meanings.{row-at}
 use Rattle.runs.proofs.Joins.{or-joins}
 use Rattle.bus.specs.declared.Bus.{Bus}
 use Rattle.offsets.specs.declared.Set.{Set}
 use Rattle.offsets.specs.Sets.{value}
-use Rattle.exits.specs.Exits.{bitsOf, busPeriod, Within}
+use Rattle.exits.specs.Exits.{Within}
 use Rattle.exits.proofs.Bits.{bits-empty, bits-join}
 use Rattle.published.specs.Steps.{bits, BegunAt, TurnedAt}
 use Rattle.published.specs.declared.Outcome.{Outcome}
 use Rattle.published.specs.declared.Pass.{Pass}
 
 module _ (b : Bus) where
-  pub empty-at : (r : Set) → value r ≡ 0 → (o : ℕ) → o < busPeriod b → getD (bits b r) o false ≡ false
-  empty-at r e o h = ap (λ (T : List Bool). getD T o false) (bits-empty (busPeriod b) r e) ∙ row-at (busPeriod b) (λ i. false) o false h
+  pub empty-at : (r : Set) → value r ≡ 0 → (o : ℕ) → o < b .period → getD (bits b r) o false ≡ false
+  empty-at r e o h = ap (λ (T : List Bool). getD T o false) (bits-empty (b .period) r e) ∙ row-at (b .period) (λ i. false) o false h
 
-  pub empty-within : (r : Set) → value r ≡ 0 → Within (busPeriod b) r
-  empty-within r e = rw e (pow-pos (busPeriod b))
+  pub empty-within : (r : Set) → value r ≡ 0 → Within (b .period) r
+  empty-within r e = rw e (pow-pos (b .period))
 
-  pub join-at : (x y r : Set) → value r ≡ bitOr (value x) (value y) → (o : ℕ) → o < busPeriod b
+  pub join-at : (x y r : Set) → value r ≡ bitOr (value x) (value y) → (o : ℕ) → o < b .period
       → getD (bits b r) o false ≡ (getD (bits b x) o false || getD (bits b y) o false)
-  join-at x y r e o h = ap (λ (T : List Bool). getD T o false) (bits-join (busPeriod b) x y r e) ∙ row-at (busPeriod b) _ o false h
+  join-at x y r e o h = ap (λ (T : List Bool). getD T o false) (bits-join (b .period) x y r e) ∙ row-at (b .period) _ o false h
 
-  pub join-within : (x y r : Set) → value r ≡ bitOr (value x) (value y) → Within (busPeriod b) x → Within (busPeriod b) y → Within (busPeriod b) r
-  join-within x y r e h g = rw e (or-lt (busPeriod b) (value x) (value y) h g)
+  pub join-within : (x y r : Set) → value r ≡ bitOr (value x) (value y) → Within (b .period) x → Within (b .period) y → Within (b .period) r
+  join-within x y r e h g = rw e (or-lt (b .period) (value x) (value y) h g)
 
   -- ---- what the unroller starts from, and one iteration
 

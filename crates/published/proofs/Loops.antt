@@ -3,9 +3,8 @@ use mathlib.Core.Path.{_≡_, refl, sym, _∙_, ap, ap₂}
 use mathlib.Core.Bool.{Bool, false, _||_}
 use mathlib.Core.List.{List}
 use native.Mathlib.Omega.{arith}
-use native.Mathlib.Nat.{mul-le-mul-left, mul-le-mul-right, add-mul, mul-left-comm, add-zero, sub-zero, zero-mul, sub-self, not-suc-le-zero, le-refl}
-use Prim.Native.Nat.{ℕ, zero, suc, _+_, _-_, _*_, _/_, _≤_, _<_}
-use Rattle.runs.specs.Slots.{equal}
+use native.Mathlib.Nat.{mul-le-mul-left, mul-le-mul-right, add-mul, mul-left-comm, zero-mul, sub-self, not-suc-le-zero}
+use Prim.Native.Nat.{ℕ, _+_, _-_, _*_, _≤_}
 use Rattle.runs.specs.Nodes.{Tree, visits}
 use Rattle.runs.specs.Carried.{iterate}
 use Rattle.runs.specs.Figures.{cost, sum}
@@ -14,28 +13,23 @@ use Rattle.runs.proofs.Cases.{split}
 use Rattle.runs.proofs.Bounds.{cost-bounded, sum-le}
 use Rattle.runs.proofs.Joins.{iterate-split, sum-same, sum-split}
 use Rattle.bus.specs.declared.Bus.{Bus}
-use Rattle.bus.specs.Waits.{slotsOf}
+use Rattle.bus.specs.Owning.{busMeant}
 use Rattle.offsets.specs.declared.Set.{Set}
 use Rattle.image.specs.Nodes.{treeAt}
-use Rattle.image.specs.Walks.{Walkable}
-use Rattle.image.specs.declared.Task.{Task}
+use Rattle.image.specs.declared.Walk.{Walk}
 use Rattle.image.specs.declared.nodes.Loop.{Loop}
-use Rattle.image.proofs.Walks.{valid-at}
-use Rattle.exits.specs.Exits.{busPeriod, Within}
-use Rattle.cycles.specs.Cycles.{Jumps}
-use Rattle.cycles.specs.declared.Watch.{Watch}
+use Rattle.image.proofs.Walks.{walk-lawful, walk-small, valid-at}
 use Rattle.cycles.proofs.Watching.{goes-none, goes-one, goes-both, whole, skips-small, skips-watches, skips-ends}
 use Rattle.published.specs.declared.Outcome.{Outcome}
 use Rattle.published.specs.declared.Pass.{Pass}
-use Rattle.published.specs.declared.Kept.{Kept}
 use Rattle.published.specs.declared.Turns.{Turns}
-use Rattle.published.specs.Steps.{bits, after, charge, State, state, next, charged, Cyclic, Ready, ReadyRepeat, ReadyLoop, Published, BegunAt, TurnedAt, UnrolledAt, WatchedBy, SkippedBy, Unrolls}
+use Rattle.published.specs.Steps.{bits, after, charge, state, next, charged, Cyclic, Ready, ReadyRepeat, ReadyLoop, Published, BegunAt, TurnedAt, UnrolledAt, WatchedBy, SkippedBy, Unrolls}
 use Rattle.published.proofs.Parts.{as-loop, none-left, one-left, both-left}
 use Rattle.published.proofs.Watching.{pair, multiple, multiple-cost, unrolled-skip, cyclic-of}
 
 -- ---- parts of an unrolled loop
 
-module _ (s : List ℕ) (k : Task) (places : List ℕ) (body left : ℕ) (t : Turns) (r : ReadyLoop s k places body left t) where
+module _ (s : List ℕ) (k : Walk) (places : List ℕ) (body left : ℕ) (t : Turns) (r : ReadyLoop s k places body left t) where
   abbrev x : Tree
   x = treeAt s body
 
@@ -60,7 +54,7 @@ module _ (s : List ℕ) (k : Task) (places : List ℕ) (body left : ℕ) (t : Tu
       → total + 65535 * (n * visits x) ≤ 6553500000
   later-few m n total l e =
       let most = sum-le m (charge (k .bus) x (bits (k .bus) (t .pass .cur))) (65535 * visits x)
-      (λ i. cost-bounded (equal (slotsOf (k .bus))) (r .walkable .accepted .lawful) (r .walkable .accepted .small) x
+      (λ i. cost-bounded (busMeant (k .bus)) (walk-lawful s k places (r .walkable)) (walk-small s k places (r .walkable)) x
       (valid-at s k places (r .walkable) body (r .low)) _) in
       let f : (m + n) * visits x ≡ m * visits x + n * visits x = add-mul m n (visits x) in
       let g : m * (65535 * visits x) ≡ 65535 * (m * visits x) = mul-left-comm m 65535 (visits x) in
@@ -94,7 +88,7 @@ module _ (s : List ℕ) (k : Task) (places : List ℕ) (body left : ℕ) (t : Tu
     one-asks =
         let cheap : n .cost ≤ 65535 * visits x =
         rw (step .costs)
-        (cost-bounded (equal (slotsOf (k .bus))) (r .walkable .accepted .lawful) (r .walkable .accepted .small) x (valid-at s k places (r .walkable) body (r .low)) _) in
+        (cost-bounded (busMeant (k .bus)) (walk-lawful s k places (r .walkable)) (walk-small s k places (r .walkable)) x (valid-at s k places (r .walkable) body (r .low)) _) in
         (omega (arith, r .many), omega (arith, r .spent, turned .costs), omega (arith, turned .costs, rw e at (r .few)))
 
     pub one-unrolls : t .watch .cycle ≡ 0 → (a : Turns) → WatchedBy p (t .kept) (t .watch) a → Unrolls (k .bus) x least left t a
@@ -130,10 +124,10 @@ both-unroll b x least left h l t a q u v =
 
 -- unrolling is the same from equal numbers and equal sets
 same-from : (b : Bus) (x : Tree) (least d d' m m' : ℕ) (C C' E E' X Y : List Bool) → d' ≡ d → m' ≡ m → C' ≡ C → E' ≡ E
-    → Unrolled false _||_ (busPeriod b) (after b x) least d' m' C' E' X Y → Unrolled false _||_ (busPeriod b) (after b x) least d m C E X Y
+    → Unrolled false _||_ (b .period) (after b x) least d' m' C' E' X Y → Unrolled false _||_ (b .period) (after b x) least d m C E X Y
 same-from b x least d d' m m' C C' E E' X Y h i j g v = rw (h, i, j, g) at v
 
-module _ (s : List ℕ) (k : Task) (places : List ℕ) (node : ℕ) (l : Loop) (x₀ : Set) (r : ReadyRepeat s k places node l x₀)
+module _ (s : List ℕ) (k : Walk) (places : List ℕ) (node : ℕ) (l : Loop) (x₀ : Set) (r : ReadyRepeat s k places node l x₀)
     (p : Pass) (g : BegunAt (k .bus) (l .least) x₀ p) where
   abbrev y : Tree
   y = treeAt s (l .body)
@@ -236,7 +230,7 @@ module _ (s : List ℕ) (k : Task) (places : List ℕ) (node : ℕ) (l : Loop) (
         unrolled =
             split 1 n
             (λ m. let j = e .skips .1 .jumps .room m in
-            unrolled-skip (k .bus) y (busPeriod (k .bus)) (a .watch .cycle) (a .watch .gain) _ (cycle m) (j .0) (l .least) (a .watch .done)
+            unrolled-skip (k .bus) y (k .bus .period) (a .watch .cycle) (a .watch .gain) _ (cycle m) (j .0) (l .least) (a .watch .done)
             (l .greatest - a .watch .done) n (j .1) _ _ _
             (same-from (k .bus) y (l .least) _ _ _ _ _ _ _ _ _ _ refl refl (ap (bits (k .bus)) (e .cur)) (ap (bits (k .bus)) (e .out)) (v .unrolled)))
             (λ m. let z : n ≡ 0 = omega arith in
@@ -258,7 +252,7 @@ module _ (s : List ℕ) (k : Task) (places : List ℕ) (node : ℕ) (l : Loop) (
               ap (λ (c : ℕ). sum c (charge (k .bus) y (bits (k .bus) (a .pass .cur)))) (omega (arith, fits)) in
               let rest : sum (o - m) (λ i. charge (k .bus) y (bits (k .bus) (a .pass .cur)) (m + i)) ≡ sum (o - m) (charge (k .bus) y (bits (k .bus) (q .pass .cur))) =
               sum-same (o - m) _ _ (λ i h.
-              ap (cost (equal (slotsOf (k .bus))) y) (iterate-split (after (k .bus) y) m i _ ∙ ap (iterate (after (k .bus) y) i) skip-set)) in
+              ap (cost (busMeant (k .bus)) y) (iterate-split (after (k .bus) y) m i _ ∙ ap (iterate (after (k .bus) y) i) skip-set)) in
               omega (arith, v .costs, paid, parts, all, rest)
 
       counted : (w : Pass) (d d' m m' : ℕ) → d ≡ d' → m ≡ m' → UnrolledAt (k .bus) y (l .least) d m (q .pass) w → UnrolledAt (k .bus) y (l .least) d' m' (q .pass) w

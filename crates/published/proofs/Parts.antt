@@ -1,28 +1,26 @@
 -- A node's exits and cost from its children's: a sequence, a branch, a loop; and the costs of children one by one.
-use mathlib.Core.Path.{_≡_, refl, sym, _∙_, ap, ap₂}
+use mathlib.Core.Path.{_≡_, sym, _∙_, ap, ap₂}
 use mathlib.Core.Bool.{Bool, false, _||_}
 use mathlib.Core.List.{List}
-use lib.ListN.{getD}
 use native.Mathlib.Omega.{arith}
 use native.Mathlib.Nat.{add-zero, zero-add}
 use Prim.Native.Nat.{ℕ, _+_, _-_, _*_, _≤_, _<_, max}
 use Rattle.runs.specs.Bus.{Bus as RunBus}
-use Rattle.runs.specs.Slots.{equal}
-use Rattle.runs.specs.Clock.{offsets}
+use Rattle.runs.specs.Schedules.{owning}
 use Rattle.runs.specs.Nodes.{Tree, Trees}
-use Rattle.runs.specs.Carried.{row, iterate, carried}
+use Rattle.runs.specs.Carried.{iterate, carried}
 use Rattle.runs.specs.Figures.{exits, cost, costAll, costAny, sum}
-use Rattle.runs.proofs.Joins.{or-joins, row-same, iterate-split, sum-same, sum-split}
+use Rattle.runs.proofs.Joins.{or-joins, iterate-split, sum-same, sum-split}
 use Rattle.runs.proofs.Loops.{unrolled-none, unrolled-one, unrolled-both, unrolled-all}
 use Rattle.bus.specs.declared.Bus.{Bus}
-use Rattle.bus.specs.Waits.{slotsOf}
+use Rattle.bus.specs.Owning.{busMeant}
 use Rattle.offsets.specs.declared.Set.{Set}
-use Rattle.image.specs.Bytes.{wordAt}
+use Rattle.bytes.specs.Bytes.{wordAt}
 use Rattle.image.specs.Nodes.{treeAt, childTrees}
 use Rattle.image.proofs.Walks.{trees-more, trees-none}
-use Rattle.exits.specs.Exits.{bitsOf, busPeriod, Within, Exited}
+use Rattle.exits.specs.Exits.{Within}
 use Rattle.exits.proofs.Bits.{bits-at, bits-row}
-use Rattle.published.specs.Steps.{bits, after, afterAll, afterAny, Published, PublishedAll, PublishedAny, BegunAt, TurnedAt, UnrolledAt}
+use Rattle.published.specs.Steps.{bits, after, Published, PublishedAll, PublishedAny, BegunAt, TurnedAt, UnrolledAt}
 use Rattle.published.specs.declared.Outcome.{Outcome}
 use Rattle.published.specs.declared.Pass.{Pass}
 
@@ -61,10 +59,10 @@ module _ (b : Bus) (x : Tree) (s : Set) where
   }
 
   pub as-any : (xs : Trees) (r : Outcome) → x ≡ Tree.branch xs → PublishedAny b xs s r → Published b x s r
-  unfolding carried cost equal
+  unfolding carried cost owning
   as-any xs r e h = record {
     exited = record {
-      bits = rw e (bits-row (busPeriod b) (r .exits) _ (λ o l. sym (bits-at (busPeriod b) (r .exits) o l) ∙ h .exited o l));
+      bits = rw e (bits-row (b .period) (r .exits) _ (λ o l. sym (bits-at (b .period) (r .exits) o l) ∙ h .exited o l));
       within = h .within;
     };
     costs = rw e (h .costs);
@@ -72,17 +70,17 @@ module _ (b : Bus) (x : Tree) (s : Set) where
 
   pub as-loop : (body : Tree) (least greatest : ℕ) (p r : Pass) → x ≡ Tree.loop least greatest body → BegunAt b least s p
       → UnrolledAt b body least 0 greatest p r → Published b x s (record { cost = r .cost; exits = r .out })
-  unfolding carried cost equal
+  unfolding carried cost owning
   as-loop body least greatest p r e g u = record {
     exited = record {
-      bits = rw e (bits-row (busPeriod b) (r .out) _ (λ o l.
-          sym (bits-at (busPeriod b) (r .out) o l)
-          ∙ unrolled-all false _||_ or-joins (busPeriod b) (after b body) least greatest (bits b s) _ _ _ _ (g .begun) (u .unrolled) o l));
+      bits = rw e (bits-row (b .period) (r .out) _ (λ o l.
+          sym (bits-at (b .period) (r .out) o l)
+          ∙ unrolled-all false _||_ or-joins (b .period) (after b body) least greatest (bits b s) _ _ _ _ (g .begun) (u .unrolled) o l));
       within = u .within-out;
     };
     costs =
         rw e
-        (u .costs ∙ ap₂ _+_ (g .costs) (ap (λ (X : List Bool). sum greatest (λ i. cost (equal (slotsOf b)) body (iterate (after b body) i X))) (g .begun .cur))
+        (u .costs ∙ ap₂ _+_ (g .costs) (ap (λ (X : List Bool). sum greatest (λ i. cost (busMeant b) body (iterate (after b body) i X))) (g .begun .cur))
         ∙ zero-add _);
   }
 
@@ -93,22 +91,22 @@ module _ (b : Bus) (x : Tree) (least done : ℕ) where
   F X = after b x X
 
   abbrev charge : List Bool → ℕ → ℕ
-  charge X i = cost (equal (slotsOf b)) x (iterate (after b x) i X)
+  charge X i = cost (busMeant b) x (iterate (after b x) i X)
 
-  pub none-left : (p : Pass) → Within (busPeriod b) (p .cur) → Within (busPeriod b) (p .out) → UnrolledAt b x least done 0 p p
+  pub none-left : (p : Pass) → Within (b .period) (p .cur) → Within (b .period) (p .out) → UnrolledAt b x least done 0 p p
   unfolding sum
   none-left p h g = record {
-    unrolled = unrolled-none false _||_ or-joins (busPeriod b) (after b x) least done _ _;
+    unrolled = unrolled-none false _||_ or-joins (b .period) (after b x) least done _ _;
     within = h;
     within-out = g;
     costs = sym (add-zero _);
   }
 
-  pub one-left : (p : Pass) (n : Outcome) (r : Pass) → Within (busPeriod b) (p .out) → Published b x (p .cur) n → TurnedAt b least done p n r
+  pub one-left : (p : Pass) (n : Outcome) (r : Pass) → Within (b .period) (p .out) → Published b x (p .cur) n → TurnedAt b least done p n r
       → UnrolledAt b x least done 1 p r
   unfolding sum iterate
   one-left p n r g e t = record {
-    unrolled = unrolled-one false _||_ or-joins (busPeriod b) (after b x) least done _ _ (bits b (n .exits)) _ _ (e .exited .bits) (t .turned);
+    unrolled = unrolled-one false _||_ or-joins (b .period) (after b x) least done _ _ (bits b (n .exits)) _ _ (e .exited .bits) (t .turned);
     within = t .within (e .exited .within);
     within-out = t .within-out (e .exited .within) g;
     costs = t .costs ∙ ap (λ (m : ℕ). p .cost + m) (e .costs ∙ sym (zero-add _));
@@ -116,12 +114,12 @@ module _ (b : Bus) (x : Tree) (least done : ℕ) where
 
   pub both-left : (h k : ℕ) (p a r : Pass) → UnrolledAt b x least done h p a → UnrolledAt b x least (done + h) k a r → UnrolledAt b x least done (h + k) p r
   both-left h k p a r u v = record {
-    unrolled = unrolled-both false _||_ or-joins (busPeriod b) (after b x) least done h k _ _ _ _ _ _ (u .unrolled) (v .unrolled);
+    unrolled = unrolled-both false _||_ or-joins (b .period) (after b x) least done h k _ _ _ _ _ _ (u .unrolled) (v .unrolled);
     within = v .within;
     within-out = v .within-out;
     costs =
         let e : sum k (charge (bits b (a .cur))) ≡ sum k (λ i. charge (bits b (p .cur)) (h + i)) =
-        sum-same k _ _ (λ i l. ap (cost (equal (slotsOf b)) x)
+        sum-same k _ _ (λ i l. ap (cost (busMeant b) x)
         (ap (iterate (after b x) i) (u .unrolled .cur) ∙ sym (iterate-split (after b x) h i (bits b (p .cur))))) in
         omega (arith, v .costs, u .costs, e, sum-split h k (charge (bits b (p .cur))));
   }

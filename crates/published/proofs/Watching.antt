@@ -7,8 +7,7 @@ use lib.ListN.{getD}
 use native.Mathlib.Omega.{arith}
 use native.Mathlib.Nat.{le-refl, zero-mul, suc-mul, add-zero}
 use native.Mathlib.Decide.{ℕ-discrete}
-use Prim.Native.Nat.{ℕ, zero, suc, _+_, _-_, _*_, _≤_, _<_}
-use Rattle.runs.specs.Slots.{equal}
+use Prim.Native.Nat.{ℕ, zero, suc, _+_, _-_, _*_, _≤_}
 use Rattle.runs.specs.Nodes.{Tree}
 use Rattle.runs.specs.Carried.{row, iterate}
 use Rattle.runs.specs.Figures.{cost, sum}
@@ -16,10 +15,10 @@ use Rattle.runs.specs.Parts.{Unrolled}
 use Rattle.runs.proofs.Joins.{iterate-split, sum-same, sum-split}
 use Rattle.runs.proofs.Periodic.{Under, or-bounds, unrolled-skip as skip}
 use Rattle.bus.specs.declared.Bus.{Bus}
-use Rattle.bus.specs.Waits.{slotsOf}
+use Rattle.bus.specs.Owning.{busMeant}
 use Rattle.offsets.specs.declared.Set.{Set}
 use Rattle.offsets.specs.Sets.{value, has}
-use Rattle.exits.specs.Exits.{bitsOf, busPeriod}
+use Rattle.exits.specs.Exits.{bitsOf}
 use Rattle.cycles.specs.Cycles.{Seen}
 use Rattle.cycles.specs.declared.Watch.{Watch}
 use Rattle.cycles.proofs.Watching.{watches-next}
@@ -34,7 +33,7 @@ pair X n = record { set = X; total = n }
 -- sets with the same number have the same bits
 same-bits : (b : Bus) (s t : Set) → value s ≡ value t → bits b s ≡ bits b t
 unfolding bitsOf
-same-bits b s t e = ap (λ (n : ℕ). row (busPeriod b) (λ o. has n o)) e
+same-bits b s t e = ap (λ (n : ℕ). row (b .period) (λ o. has n o)) e
 
 module _ (b : Bus) (x : Tree) where
   abbrev F : List Bool → List Bool
@@ -42,7 +41,7 @@ module _ (b : Bus) (x : Tree) where
 
   -- the cost of the iterations behind the first k
   charge-on : (C : List Bool) (k i : ℕ) → charge b x (iterate (after b x) k C) i ≡ charge b x C (k + i)
-  charge-on C k i = ap (cost (equal (slotsOf b)) x) (sym (iterate-split (after b x) k i C))
+  charge-on C k i = ap (cost (busMeant b) x) (sym (iterate-split (after b x) k i C))
 
   pub multiple : (c g : ℕ) (C : List Bool) → Cyclic b x c g C → (n : ℕ) → iterate (after b x) (n * c) C ≡ C
   unfolding iterate
@@ -76,7 +75,7 @@ module _ (b : Bus) (x : Tree) where
   -- ---- the set with the cost so far
 
   commutes : (q : ℕ) (C : State) → next b x (charged q C) ≡ charged q (next b x C)
-  commutes q C = ap (λ (n : ℕ). pair (after b x (C .set)) n) (order (C .total) q (cost (equal (slotsOf b)) x (C .set)))
+  commutes q C = ap (λ (n : ℕ). pair (after b x (C .set)) n) (order (C .total) q (cost (busMeant b) x (C .set)))
     where
       order : (m q c : ℕ) → m + q + c ≡ m + c + q
       order m q c = omega arith
@@ -90,7 +89,7 @@ module _ (b : Bus) (x : Tree) where
   unfolding iterate sum
   iterate-total zero C = sym (add-zero (C .total))
   iterate-total (suc n) C =
-      omega (arith, iterate-total n C, ap (cost (equal (slotsOf b)) x) (iterate-set n C))
+      omega (arith, iterate-total n C, ap (cost (busMeant b) x) (iterate-set n C))
 
   -- a cycle of both is a cycle of the set with its cost
   pub cyclic-of : (c g : ℕ) (C : State) → iterate (next b x) c C ≡ charged g C → Cyclic b x c g (C .set)

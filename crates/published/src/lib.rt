@@ -11,12 +11,12 @@ ghost use Prim.Native.Nat.{ℕ, _+_, _≤_, max};
 ghost use Rattle.runs.specs.Nodes.{Tree};
 ghost use Rattle.bus.specs.declared.Bus.{Bus};
 ghost use Rattle.image.specs.Nodes.{treeAt, childTrees, kindMeant};
-ghost use Rattle.exits.specs.Exits.{PlainReady, BusReady, busPeriod};
+ghost use Rattle.exits.specs.Exits.{PlainReady, BusReady};
 ghost use Rattle.cycles.specs.Cycles.{Small};
 ghost use Rattle.published.specs.Steps.{Ready, ReadyAll, ReadyRepeat, ReadyLoop, Published, PublishedAll, PublishedAny, BegunAt, TurnedAt, WatchedBy, SkippedBy, Unrolls};
 use bus::Bus;
 use cycles::Watch;
-use image::Task;
+use image::Walk;
 use image::nodes::BusBlock;
 use image::nodes::Children;
 use image::nodes::Kind;
@@ -198,7 +198,7 @@ fn larger(a: u64, b: u64) -> u64
 }
 
 // The outcome of a node entered with the offsets of s.
-pub fn walk(image: &[u8], places: &[usize; 256], k: Task, node: usize, s: Set) -> Outcome
+pub fn walk(image: &[u8], places: &[usize; 256], k: Walk, node: usize, s: Set) -> Outcome
     requires { ⌜ Ready (now image) k (now places) node s ⌝ }
     ensures { λ r. ⌜ Published (k .bus) (treeAt (now (image .entry)) node) s r ⌝ }
 {
@@ -219,7 +219,7 @@ pub fn walk(image: &[u8], places: &[usize; 256], k: Task, node: usize, s: Set) -
 fn sequence(
     image: &[u8],
     places: &[usize; 256],
-    k: Task,
+    k: Walk,
     node: usize,
     c: Children,
     s: Set,
@@ -233,7 +233,7 @@ fn sequence(
     let mut cur = s;
     let mut i = 0;
     while i < count {
-        let child = image::read::word(image, place + 2 * i);
+        let child = bytes::word(image, place + 2 * i);
         let next = walk(image, places, k, child, cur);
         cost += next.cost;
         cur = next.exits;
@@ -243,7 +243,7 @@ fn sequence(
 }
 
 // Any one of the children: the largest cost, and the exits joined.
-fn branch(image: &[u8], places: &[usize; 256], k: Task, node: usize, c: Children, s: Set) -> Outcome
+fn branch(image: &[u8], places: &[usize; 256], k: Walk, node: usize, c: Children, s: Set) -> Outcome
     requires { ⌜ ReadyAll (now image) k (now places) node (c .place) (c .count) s ⌝ }
     ensures { λ r. ⌜ PublishedAny (k .bus) (childTrees (now (image .entry)) (c .place) (c .count)) s r ⌝ }
 {
@@ -253,7 +253,7 @@ fn branch(image: &[u8], places: &[usize; 256], k: Task, node: usize, c: Children
     let mut out = offsets::empty();
     let mut i = 0;
     while i < count {
-        let child = image::read::word(image, place + 2 * i);
+        let child = bytes::word(image, place + 2 * i);
         let arm = walk(image, places, k, child, s);
         cost = larger(cost, arm.cost);
         out = offsets::join(out, arm.exits);
@@ -263,7 +263,7 @@ fn branch(image: &[u8], places: &[usize; 256], k: Task, node: usize, c: Children
 }
 
 // A loop: unrolled until a cycle is found or all is done, whole cycles skipped, and the rest unrolled.
-fn repeat(image: &[u8], places: &[usize; 256], k: Task, node: usize, l: Loop, s: Set) -> Outcome
+fn repeat(image: &[u8], places: &[usize; 256], k: Walk, node: usize, l: Loop, s: Set) -> Outcome
     requires { ⌜ ReadyRepeat (now image) k (now places) node l s ⌝ }
     ensures { λ r. ⌜ Published (k .bus) (Tree.loop (l .least) (l .greatest) (treeAt (now (image .entry)) (l .body))) s r ⌝ }
 {
@@ -295,7 +295,7 @@ fn repeat(image: &[u8], places: &[usize; 256], k: Task, node: usize, l: Loop, s:
 fn unroll(
     image: &[u8],
     places: &[usize; 256],
-    k: Task,
+    k: Walk,
     body: usize,
     least: usize,
     left: usize,

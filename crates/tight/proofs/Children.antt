@@ -1,26 +1,25 @@
 -- One child of a sequence or a branch: the walk may be asked of it, and the rest goes on from it.
-use mathlib.Core.Path.{_≡_, refl, sym, _∙_, ap}
-use mathlib.Core.Option.{none, some}
+use mathlib.Core.Path.{_≡_, sym, _∙_, ap}
+use mathlib.Core.Option.{none}
 use mathlib.Core.List.{List}
 use lib.ListN.{length, getD}
 use native.Mathlib.Omega.{arith}
-use native.Mathlib.Nat.{mul-le-mul-left}
 use Prim.Native.Nat.{ℕ, _+_, _-_, _*_, _≤_, _<_}
 use Rattle.runs.specs.Nodes.{Tree, visits, visitsAll}
 use Rattle.runs.specs.Figures.{Time, longer, later}
 use Rattle.runs.proofs.Joins.{longer-joins}
-use Rattle.image.specs.Bytes.{wordAt}
+use Rattle.bytes.specs.Bytes.{wordAt}
 use Rattle.image.specs.Nodes.{treeAt, childTrees}
 use Rattle.image.specs.Walks.{Walkable, Named}
 use Rattle.image.proofs.Walks.{all-more, any-more, valid-at}
 use Rattle.image.proofs.Levels.{visits-step}
-use Rattle.image.specs.declared.Task.{Task}
+use Rattle.image.specs.declared.Walk.{Walk}
 use Rattle.times.specs.Arrays.{tableOf, Joined}
 use Rattle.tight.specs.Steps.{sizeOf, table, Stepped, after, afterAll, afterAny, Roomy, Ready}
 use Rattle.iterations.proofs.Exits.{joined-at}
 use Rattle.tight.proofs.Rooms.{room-less, room-after}
 
-module _ (s : List ℕ) (k : Task) (places : List ℕ) (w : Walkable s k places) (node : ℕ) (low : node ≤ k .entry)
+module _ (s : List ℕ) (k : Walk) (places : List ℕ) (w : Walkable s k places) (node : ℕ) (low : node ≤ k .task .entry)
     (p n : ℕ) (named : Named s p n node) (i : ℕ) (h : i < n) (child : ℕ) (is : child ≡ wordAt s (p + 2 * i)) where
   -- the visits of the children from i on
   abbrev ahead : ℕ → ℕ

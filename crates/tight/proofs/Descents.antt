@@ -1,47 +1,45 @@
 -- From a node that may be walked to what its kind of step asks, and from the step's promise to the node's.
-use mathlib.Core.Path.{_≡_, refl, sym, _∙_, ap}
+use mathlib.Core.Path.{_≡_}
 use mathlib.Core.List.{List}
 use lib.ListN.{length, getD}
 use native.Mathlib.Omega.{arith}
-use native.Mathlib.Nat.{mul-le-mul-left, mul-le-mul-right, mul-comm}
-use Prim.Native.Nat.{ℕ, suc, _+_, _-_, _*_, _≤_, _<_}
+use native.Mathlib.Nat.{mul-le-mul-right, mul-comm}
+use Prim.Native.Nat.{ℕ, _-_, _≤_, _<_}
 use Rattle.runs.specs.Lines.{power}
-use Rattle.runs.specs.Nodes.{Tree, Trees, visits, visitsAll}
-use Rattle.runs.specs.Carried.{iterate}
-use Rattle.runs.specs.Figures.{Time}
+use Rattle.runs.specs.Nodes.{Tree, visits}
 use Rattle.image.specs.Nodes.{nodeOf, kindMeant, treeAt, childTrees}
-use Rattle.image.specs.Walks.{Walkable, Named}
-use Rattle.image.specs.declared.Task.{Task}
+use Rattle.image.specs.Walks.{Walkable}
+use Rattle.image.specs.declared.Walk.{Walk}
 use Rattle.image.specs.declared.nodes.Node.the-variants.{Plain, Bus as Block, Once, Sequence, Branch, Loop}
 use Rattle.image.specs.declared.nodes.Plain.{Plain as PlainNumbers}
 use Rattle.image.specs.declared.nodes.BusBlock.{BusBlock}
 use Rattle.image.specs.declared.nodes.Once.{Once as OnceNumbers}
 use Rattle.image.specs.declared.nodes.Children.{Children}
 use Rattle.image.specs.declared.nodes.Loop.{Loop as LoopNumbers}
-use Rattle.image.proofs.Walks.{valid-at, node-place, as-plain, as-block, as-once, as-sequence, as-branch, as-loop as loop-node}
+use Rattle.image.proofs.Walks.{period-same, node-place, as-plain, as-block, as-once, as-sequence, as-branch, as-loop as loop-node}
 use Rattle.image.proofs.Fetches.{few-sets}
 use Rattle.tight.specs.Steps.{sizeOf, table, afterAll, Walked, Sized, Steppable, PlainReady, BusReady, OnceReady, Ready, ReadyAll, ReadyRepeat, Branched}
 use Rattle.tight.proofs.Rooms.{room-less, room-fits}
 use Rattle.tight.proofs.Parts.{as-all, as-any}
 
 -- the sizes of an accepted task's tables
-module _ (s : List ℕ) (k : Task) (places : List ℕ) (w : Walkable s k places) where
+module _ (s : List ℕ) (k : Walk) (places : List ℕ) (w : Walkable s k places) where
   pub sized : Sized k
   sized = record {
-    ranges = w .sound .bus;
+    fit = w .fit;
     sets-is = w .sound .sets-is;
-    few = rw (w .sound .sets-is) (few-sets (k .lines) (w .sound .lines-few));
+    few = rw (w .sound .sets-is) (few-sets (k .task .lines) (w .sound .lines-few));
   }
 
   pub wide-size : sizeOf k ≤ 1024
-  wide-size = omega (arith, w .sound .narrow, mul-comm (k .bus .cores * k .bus .slot) (k .sets), ap (λ (n : ℕ). n * (k .bus .cores * k .bus .slot)) (w .sound .sets-is))
+  wide-size = rw (← w .sound .sets-is, period-same s k places w) (omega (arith, w .sound .narrow, mul-comm (k .task .period) (k .task .sets)))
 
-  pub narrow-size : k .sets ≤ 1 → sizeOf k ≤ 256
+  pub narrow-size : k .task .sets ≤ 1 → sizeOf k ≤ 256
   narrow-size h =
-      let m : power (k .lines) ≤ 1 = omega (arith, w .sound .sets-is) in
-      omega (arith, w .sound .bus .period-most, mul-le-mul-right (k .bus .cores * k .bus .slot) m)
+      let m : power (k .task .lines) ≤ 1 = omega (arith, w .sound .sets-is) in
+      omega (arith, w .fit .most, mul-le-mul-right (k .bus .period) m)
 
-module _ (s : List ℕ) (k : Task) (places : List ℕ) (node : ℕ) (t : List ℕ) (r : Ready s k places node t) where
+module _ (s : List ℕ) (k : Walk) (places : List ℕ) (node : ℕ) (t : List ℕ) (r : Ready s k places node t) where
   pub in-image : getD places node 0 ≤ length s
   in-image = node-place s k places (r .walkable) node (r .low) .0
 
@@ -56,7 +54,7 @@ module _ (s : List ℕ) (k : Task) (places : List ℕ) (node : ℕ) (t : List �
     pub plain-ready : PlainReady k (p .lowest) (p .highest) t
     plain-ready =
         let h = as-plain s k places (r .walkable) node (r .low) p e in
-        (record { ranges = r .walkable .sound .bus; order = h .1; inRow = (omega (arith, h .3), h .2) }, held)
+        (record { fit = r .walkable .fit; order = h .1; inRow = (omega (arith, h .3), h .2) }, held)
 
     pub plain-done : (q : List ℕ) → Walked k (Tree.plain (p .lowest) (p .highest)) t q → Walked k (treeAt s node) t q
     plain-done q h = rw (as-plain s k places (r .walkable) node (r .low) p e .0) h
@@ -66,7 +64,7 @@ module _ (s : List ℕ) (k : Task) (places : List ℕ) (node : ℕ) (t : List �
     pub block-ready : BusReady k (x .lowest) (x .highest) t
     block-ready =
         let h = as-block s k places (r .walkable) node (r .low) x e in
-        (record { ranges = r .walkable .sound .bus; order = h .2; inRow = (h .1, h .3) }, held)
+        (record { fit = r .walkable .fit; order = h .2; inRow = (h .1, h .4, h .3) }, held)
 
     pub block-done : (q : List ℕ) → Walked k (Tree.bus (kindMeant (x .kind)) (x .lowest) (x .highest)) t q → Walked k (treeAt s node) t q
     block-done q h = rw (as-block s k places (r .walkable) node (r .low) x e .0) h
@@ -77,7 +75,7 @@ module _ (s : List ℕ) (k : Task) (places : List ℕ) (node : ℕ) (t : List �
     once-ready =
         let h = as-once s k places (r .walkable) node (r .low) x e in
         record {
-          access = record { ranges = r .walkable .sound .bus; order = h .2; inRow = (h .1, h .3) };
+          access = record { fit = r .walkable .fit; order = h .2; inRow = (h .1, h .6, h .3) };
           short = h .4;
           line-lt = h .5;
           lines-few = r .walkable .sound .lines-few;

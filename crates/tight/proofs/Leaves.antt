@@ -1,19 +1,16 @@
 -- What a block that is fetched once asks of the rows.
-use mathlib.Core.Path.{_≡_, refl, ap}
-use mathlib.Core.Bool.{Bool, cond}
+use mathlib.Core.Path.{_≡_, refl}
 use mathlib.Core.List.{List}
 use native.Mathlib.Omega.{arith}
 use Prim.Native.Nat.{ℕ, suc, _+_, _*_, _/_, _%_, _≤_, _<_}
-use Rattle.runs.specs.Slots.{periodOf}
 use Rattle.runs.specs.Lines.{power, has, add}
 use Rattle.runs.proofs.LinesLaws.{power-pos, add-in}
-use Rattle.bus.specs.Waits.{slotsOf}
-use Rattle.image.specs.declared.Task.{Task}
+use Rattle.image.specs.declared.Walk.{Walk}
 use Rattle.image.proofs.Fetches.{few-sets}
 use Rattle.times.specs.Arrays.{Fits}
 use Rattle.lined.specs.Lined.{FitsFrom, RowsReady}
 use Rattle.lined.proofs.RowLaws.{half-has, row-fits}
-use Rattle.tight.specs.Steps.{sizeOf, Steppable, OnceReady}
+use Rattle.tight.specs.Steps.{Steppable, OnceReady}
 
 -- a set without a line has one with it
 paired : (n x j : ℕ) → x < n → j < power n → j / power x % 2 ≡ 0 → j + power x < power n
@@ -24,17 +21,17 @@ light : (x : ℕ) → x ≤ 3 → power x ≤ 8
 unfolding power
 light x h = omega (arith, few-sets (suc x) (omega arith))
 
-module _ (k : Task) (t : List ℕ) (h : Steppable k t) where
-  pub sets-fit : Fits (k .sets * periodOf (slotsOf (k .bus))) t
+module _ (k : Walk) (t : List ℕ) (h : Steppable k t) where
+  pub sets-fit : Fits (k .task .sets * k .bus .period) t
   sets-fit = rw (h .sized .sets-is) (h .fits)
 
-  row-fit : (j : ℕ) → j < k .sets → FitsFrom (j * periodOf (slotsOf (k .bus))) (periodOf (slotsOf (k .bus))) t
-  row-fit j l = row-fits (k .bus) (k .sets) j t t l sets-fit (λ p m. refl)
+  row-fit : (j : ℕ) → j < k .task .sets → FitsFrom (j * k .bus .period) (k .bus .period) t
+  row-fit j l = row-fits (k .bus) (k .task .sets) j t t l sets-fit (λ p m. refl)
 
-  pub once-asks : (line lo hi hit w : ℕ) → OnceReady k line lo hi hit t → w ≡ power line → RowsReady (k .bus) lo hi hit w (k .sets) 0 t
+  pub once-asks : (line lo hi hit w : ℕ) → OnceReady k line lo hi hit t → w ≡ power line → RowsReady (k .bus) lo hi hit w (k .task .sets) 0 t
   once-asks line lo hi hit w r e =
-      let pairs : (j : ℕ) → j < k .sets → j / w % 2 ≡ 0 → j + w < k .sets =
-      λ j l m. rw (e, h .sized .sets-is) (paired (k .lines) line j (r .line-lt) (rw (h .sized .sets-is) at l) (rw e at m)) in
+      let pairs : (j : ℕ) → j < k .task .sets → j / w % 2 ≡ 0 → j + w < k .task .sets =
+      λ j l m. rw (e, h .sized .sets-is) (paired (k .task .lines) line j (r .line-lt) (rw (h .sized .sets-is) at l) (rw e at m)) in
       record {
         access = r .access;
         short = r .short;

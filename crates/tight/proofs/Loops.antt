@@ -1,40 +1,38 @@
 -- Inside a loop: what the unroller may be asked, and how its parts make the whole.
-use mathlib.Core.Path.{_≡_, refl, sym, _∙_, ap}
+use mathlib.Core.Path.{_≡_, refl, sym, _∙_}
 use mathlib.Core.Option.{none}
 use mathlib.Core.List.{List}
 use lib.ListN.{length}
 use native.Mathlib.Omega.{arith}
-use native.Mathlib.Nat.{mul-le-mul-left, mul-le-mul-right, add-mul, add-zero, sub-zero, zero-mul, sub-self, not-suc-le-zero, le-refl}
-use Prim.Native.Nat.{ℕ, zero, suc, _+_, _-_, _*_, _/_, _≤_, _<_}
+use native.Mathlib.Nat.{mul-le-mul-left, mul-le-mul-right, add-mul, add-zero, sub-zero, zero-mul, sub-self, not-suc-le-zero}
+use Prim.Native.Nat.{ℕ, _+_, _-_, _*_, _≤_}
 use Rattle.runs.specs.Nodes.{Tree, visits}
 use Rattle.runs.specs.Carried.{iterate}
 use Rattle.runs.specs.Figures.{Time, longer}
-use Rattle.runs.specs.Parts.{Unrolled, shifted}
+use Rattle.runs.specs.Parts.{shifted}
 use Rattle.runs.proofs.Cases.{split}
 use Rattle.runs.proofs.Joins.{longer-joins}
 use Rattle.runs.proofs.Loops.{unrolled-none, unrolled-one, unrolled-both}
 use Rattle.runs.proofs.Shifted.{shifted-zero, multiple, cycles-skip, times-shifted}
 use Rattle.image.specs.Nodes.{treeAt}
-use Rattle.image.specs.Walks.{Walkable}
-use Rattle.image.specs.declared.Task.{Task}
+use Rattle.image.specs.declared.Walk.{Walk}
 use Rattle.image.specs.declared.nodes.Loop.{Loop}
 use Rattle.image.proofs.Walks.{valid-at}
-use Rattle.times.specs.Arrays.{tableOf, Shifted, Fits}
-use Rattle.cycles.specs.Cycles.{Jumps}
+use Rattle.times.specs.Arrays.{tableOf, Fits}
 use Rattle.cycles.specs.declared.Watch.{Watch}
 use Rattle.cycles.proofs.Watching.{goes-none, goes-one, goes-both, whole, skips-small, skips-watches, skips-ends}
 use Rattle.iterations.specs.Iterations.{WatchedBy, SkippedBy, KeptBy}
-use Rattle.tight.specs.Steps.{sizeOf, table, after, Stepped, Roomy, Walked, Ready, ReadyRepeat, ReadyLoop, BegunAt, TurnedAt, UnrolledAt, Unrolls}
+use Rattle.tight.specs.Steps.{sizeOf, table, after, Roomy, Walked, Ready, ReadyRepeat, ReadyLoop, BegunAt, TurnedAt, UnrolledAt, Unrolls}
 use Rattle.tight.proofs.Rooms.{room-less, room-fits, room-times}
 use Rattle.tight.proofs.Parts.{as-loop}
 
 -- the walk of a body commutes with more cycles at every time
-commutes : (k : Task) (x : Tree) (q : ℕ) (T : List Time) → after k x (shifted q T) ≡ shifted q (after k x T)
+commutes : (k : Walk) (x : Tree) (q : ℕ) (T : List Time) → after k x (shifted q T) ≡ shifted q (after k x T)
 commutes k x q T = times-shifted _ _ q x T
 
 -- ---- parts of an unrolled loop
 
-module _ (s : List ℕ) (k : Task) (places : List ℕ) (body left : ℕ) (w : Watch) (cur out old : List ℕ) (r : ReadyLoop s k places body left w cur out old) where
+module _ (s : List ℕ) (k : Walk) (places : List ℕ) (body left : ℕ) (w : Watch) (cur out old : List ℕ) (r : ReadyLoop s k places body left w cur out old) where
   abbrev x : Tree
   x = treeAt s body
 
@@ -113,7 +111,7 @@ module _ (s : List ℕ) (k : Task) (places : List ℕ) (body left : ℕ) (w : Wa
       }
 
 -- two parts
-pub both-unroll : (k : Task) (x : Tree) (least left h : ℕ) → h ≤ left → (w a q : Watch) (cur out old cur₁ out₁ old₁ cur' out' old' : List ℕ)
+pub both-unroll : (k : Walk) (x : Tree) (least left h : ℕ) → h ≤ left → (w a q : Watch) (cur out old cur₁ out₁ old₁ cur' out' old' : List ℕ)
     → Unrolls k x least h w cur out old a cur₁ out₁ old₁ → Unrolls k x least (left - h) a cur₁ out₁ old₁ q cur' out' old'
     → Unrolls k x least left w cur out old q cur' out' old'
 both-unroll k x least left h l w a q cur out old cur₁ out₁ old₁ cur' out' old' u v =
@@ -133,7 +131,7 @@ both-unroll k x least left h l w a q cur out old cur₁ out₁ old₁ cur' out' 
 
 -- ---- whole loops
 
-module _ (s : List ℕ) (k : Task) (places : List ℕ) (node : ℕ) (l : Loop) (t : List ℕ) (r : ReadyRepeat s k places node l t) where
+module _ (s : List ℕ) (k : Walk) (places : List ℕ) (node : ℕ) (l : Loop) (t : List ℕ) (r : ReadyRepeat s k places node l t) where
   abbrev y : Tree
   y = treeAt s (l .body)
 

@@ -2,19 +2,18 @@
 use mathlib.Core.Path.{_≡_}
 use mathlib.Core.Option.{none}
 use mathlib.Core.List.{List}
-use Prim.Native.Nat.{ℕ, _≤_}
+use Prim.Native.Nat.{ℕ}
 use Rattle.runs.specs.Clock.{withLines}
 use Rattle.runs.specs.Nodes.{Tree, Trees}
 use Rattle.runs.specs.Carried.{carried}
 use Rattle.runs.specs.Figures.{longer}
 use Rattle.runs.proofs.Joins.{longer-joins}
 use Rattle.runs.proofs.Loops.{unrolled-all}
-use Rattle.image.specs.declared.Task.{Task}
-use Rattle.times.specs.Arrays.{tableOf}
+use Rattle.image.specs.declared.Walk.{Walk}
 use Rattle.tight.specs.Steps.{sizeOf, table, Stepped, after, afterAll, BegunAt, UnrolledAt, Branched}
 use Rattle.tight.proofs.Tables.{table-is}
 
-module _ (k : Task) (x : Tree) (t : List ℕ) where
+module _ (k : Walk) (x : Tree) (t : List ℕ) where
   pub as-all : (xs : Trees) (r : List ℕ) → x ≡ Tree.sequence xs → table k r ≡ afterAll k xs (table k t) → Stepped k x t r
   unfolding carried withLines
   as-all xs r e h = rw e h

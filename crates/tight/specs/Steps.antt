@@ -4,18 +4,16 @@ use mathlib.Core.Option.{none, some}
 use mathlib.Core.List.{List}
 use lib.ListN.{length, getD}
 use Prim.Native.Nat.{ℕ, _+_, _-_, _*_, _≤_, _<_}
-use Rattle.runs.specs.Slots.{periodOf, equal}
 use Rattle.runs.specs.Lines.{power}
 use Rattle.runs.specs.Clock.{withLines}
 use Rattle.runs.specs.Nodes.{Tree, Trees, visits, visitsAll}
 use Rattle.runs.specs.Carried.{carriedAll, carriedAny}
 use Rattle.runs.specs.Figures.{Time, longer, later, times}
 use Rattle.runs.specs.Parts.{Unrolled, shifted}
-use Rattle.bus.specs.declared.Bus.{Bus}
-use Rattle.bus.specs.Waits.{slotsOf, Ranges}
+use Rattle.bus.specs.Owning.{busMeant, Fit}
 use Rattle.image.specs.Nodes.{treeAt, childTrees}
 use Rattle.image.specs.Walks.{Walkable, Named}
-use Rattle.image.specs.declared.Task.{Task}
+use Rattle.image.specs.declared.Walk.{Walk}
 use Rattle.image.specs.declared.nodes.Loop.{Loop}
 use Rattle.times.specs.Arrays.{tableOf, Fits}
 use Rattle.lined.specs.Lined.{Numbers, SteppedAll}
@@ -25,80 +23,80 @@ use Rattle.cycles.specs.declared.Watch.{Watch}
 use Rattle.iterations.specs.Iterations.{BegunBy, TurnedBy}
 
 -- how many places a task's tables have: a row of a period for each set of lines
-abbrev pub sizeOf : Task → ℕ
-sizeOf k = power (k .lines) * periodOf (slotsOf (k .bus))
+abbrev pub sizeOf : Walk → ℕ
+sizeOf k = power (k .task .lines) * k .bus .period
 
 -- an array's table; the table after a tree
-abbrev pub table : Task → List ℕ → List Time
+abbrev pub table : Walk → List ℕ → List Time
 table k t = tableOf (sizeOf k) t
 
-abbrev pub after : Task → Tree → List Time → List Time
-after k x T = times (equal (slotsOf (k .bus))) (withLines (periodOf (slotsOf (k .bus))) (k .lines)) x T
+abbrev pub after : Walk → Tree → List Time → List Time
+after k x T = times (busMeant (k .bus)) (withLines (k .bus .period) (k .task .lines)) x T
 
-abbrev pub Stepped : Task → Tree → List ℕ → List ℕ → Type 0
+abbrev pub Stepped : Walk → Tree → List ℕ → List ℕ → Type 0
 Stepped k x t r = table k r ≡ after k x (table k t)
 
 -- the tables after the trees in order, and after any one of them at a place
-abbrev pub afterAll : Task → Trees → List Time → List Time
-afterAll k xs T = carriedAll (equal (slotsOf (k .bus))) (withLines (periodOf (slotsOf (k .bus))) (k .lines)) none longer later xs T
+abbrev pub afterAll : Walk → Trees → List Time → List Time
+afterAll k xs T = carriedAll (busMeant (k .bus)) (withLines (k .bus .period) (k .task .lines)) none longer later xs T
 
-abbrev pub afterAny : Task → Trees → List Time → ℕ → Time
-afterAny k xs T o = carriedAny (equal (slotsOf (k .bus))) (withLines (periodOf (slotsOf (k .bus))) (k .lines)) none longer later xs T o
+abbrev pub afterAny : Walk → Trees → List Time → ℕ → Time
+afterAny k xs T o = carriedAny (busMeant (k .bus)) (withLines (k .bus .period) (k .task .lines)) none longer later xs T o
 
 -- every time of the table may grow by m and stays at most 2^60
-pub record Roomy (k : Task) (m : ℕ) (T : List Time) : Type 0 where
+pub record Roomy (k : Walk) (m : ℕ) (T : List Time) : Type 0 where
   pub most : m ≤ 1152921504606846976
   pub grows : (o c : ℕ) → o < sizeOf k → getD T o none ≡ some c → c + m ≤ 1152921504606846976
 
 -- an array as long as t whose table is t's after the tree
-abbrev pub Walked : Task → Tree → List ℕ → List ℕ → Type 0
-Walked k x t r = SteppedAll (k .bus) (k .lines) x t r
+abbrev pub Walked : Walk → Tree → List ℕ → List ℕ → Type 0
+Walked k x t r = SteppedAll (k .bus) (k .task .lines) x t r
 
 -- the task's numbers of lines and sets fit each other
-pub record Sized (k : Task) : Type 0 where
-  pub ranges : Ranges (k .bus)
-  pub sets-is : k .sets ≡ power (k .lines)
-  pub few : k .sets ≤ 16
+pub record Sized (k : Walk) : Type 0 where
+  pub fit : Fit (k .bus)
+  pub sets-is : k .task .sets ≡ power (k .task .lines)
+  pub few : k .task .sets ≤ 16
 
 -- an array that a block's step may be taken on
-pub record Steppable (k : Task) (t : List ℕ) : Type 0 where
+pub record Steppable (k : Walk) (t : List ℕ) : Type 0 where
   pub sized : Sized k
   pub size : sizeOf k ≤ length t
   pub fits : Fits (sizeOf k) t
 
 -- what the blocks' steps ask of their numbers and of the array
-abbrev pub PlainReady : Task → ℕ → ℕ → List ℕ → Type 0
+abbrev pub PlainReady : Walk → ℕ → ℕ → List ℕ → Type 0
 PlainReady k lo hi t = Numbers (k .bus) Plain lo hi × Steppable k t
 
-abbrev pub BusReady : Task → ℕ → ℕ → List ℕ → Type 0
+abbrev pub BusReady : Walk → ℕ → ℕ → List ℕ → Type 0
 BusReady k lo hi t = Numbers (k .bus) Always lo hi × Steppable k t
 
-pub record OnceReady (k : Task) (line lo hi hit : ℕ) (t : List ℕ) : Type 0 where
+pub record OnceReady (k : Walk) (line lo hi hit : ℕ) (t : List ℕ) : Type 0 where
   pub access : Numbers (k .bus) Always lo hi
   pub short : hit ≤ 65535
-  pub line-lt : line < k .lines
-  pub lines-few : k .lines ≤ 4
+  pub line-lt : line < k .task .lines
+  pub lines-few : k .task .lines ≤ 4
   pub held : Steppable k t
 
 -- the walk of a node from an array
-pub record Ready (s : List ℕ) (k : Task) (places : List ℕ) (node : ℕ) (t : List ℕ) : Type 0 where
+pub record Ready (s : List ℕ) (k : Walk) (places : List ℕ) (node : ℕ) (t : List ℕ) : Type 0 where
   pub walkable : Walkable s k places
-  pub low : node ≤ k .entry
+  pub low : node ≤ k .task .entry
   pub size : sizeOf k ≤ length t
   pub room : Roomy k (65535 * visits (treeAt s node)) (table k t)
 
 -- the walk of a node's children
-pub record ReadyAll (s : List ℕ) (k : Task) (places : List ℕ) (node place count : ℕ) (t : List ℕ) : Type 0 where
+pub record ReadyAll (s : List ℕ) (k : Walk) (places : List ℕ) (node place count : ℕ) (t : List ℕ) : Type 0 where
   pub walkable : Walkable s k places
-  pub low : node ≤ k .entry
+  pub low : node ≤ k .task .entry
   pub named : Named s place count node
   pub size : sizeOf k ≤ length t
   pub room : Roomy k (65535 * visitsAll (childTrees s place count)) (table k t)
 
 -- the walk of a loop
-pub record ReadyRepeat (s : List ℕ) (k : Task) (places : List ℕ) (node : ℕ) (l : Loop) (t : List ℕ) : Type 0 where
+pub record ReadyRepeat (s : List ℕ) (k : Walk) (places : List ℕ) (node : ℕ) (l : Loop) (t : List ℕ) : Type 0 where
   pub walkable : Walkable s k places
-  pub low : node ≤ k .entry
+  pub low : node ≤ k .task .entry
   pub below : l .body < node
   pub few : l .greatest ≤ 10000
   pub size : sizeOf k ≤ length t
@@ -107,24 +105,24 @@ pub record ReadyRepeat (s : List ℕ) (k : Task) (places : List ℕ) (node : ℕ
 -- ---- loops
 
 -- the unroller's tables: the exits before the first iteration, those after one more, and all after n more
-abbrev pub BegunAt : Task → ℕ → List ℕ → List ℕ → Type 0
+abbrev pub BegunAt : Walk → ℕ → List ℕ → List ℕ → Type 0
 BegunAt k least t out = BegunBy (sizeOf k) least t out
 
-abbrev pub TurnedAt : Task → ℕ → ℕ → List ℕ → List ℕ → List ℕ → Type 0
+abbrev pub TurnedAt : Walk → ℕ → ℕ → List ℕ → List ℕ → List ℕ → Type 0
 TurnedAt k least done out next out' = TurnedBy (sizeOf k) least done out next out'
 
-abbrev pub UnrolledAt : Task → Tree → ℕ → ℕ → ℕ → List ℕ → List ℕ → List ℕ → List ℕ → Type 0
+abbrev pub UnrolledAt : Walk → Tree → ℕ → ℕ → ℕ → List ℕ → List ℕ → List ℕ → List ℕ → Type 0
 UnrolledAt k body least done n cur out cur' out' =
     Unrolled none longer (sizeOf k) (after k body) least done n (table k cur) (table k out) (table k cur') (table k out')
 
 -- what is seen of a loop is true of the table now and of the kept one
-abbrev pub WatchesAt : Task → Tree → List ℕ → List ℕ → Watch → Type 0
+abbrev pub WatchesAt : Walk → Tree → List ℕ → List ℕ → Watch → Type 0
 WatchesAt k x cur old w = Watches (after k x) shifted (table k cur) (table k old) w
 
 -- `left` iterations of a loop's body are to come
-pub record ReadyLoop (s : List ℕ) (k : Task) (places : List ℕ) (body left : ℕ) (w : Watch) (cur out old : List ℕ) : Type 0 where
+pub record ReadyLoop (s : List ℕ) (k : Walk) (places : List ℕ) (body left : ℕ) (w : Watch) (cur out old : List ℕ) : Type 0 where
   pub walkable : Walkable s k places
-  pub low : body ≤ k .entry
+  pub low : body ≤ k .task .entry
   pub few : w .done + left ≤ 10000
   pub size : sizeOf k ≤ length cur
   pub size-out : sizeOf k ≤ length out
@@ -134,7 +132,7 @@ pub record ReadyLoop (s : List ℕ) (k : Task) (places : List ℕ) (body left : 
   pub watches : WatchesAt k (treeAt s body) cur old w
 
 -- those that were done: all, or, once a cycle is found, some of them
-pub record Unrolls (k : Task) (body : Tree) (least left : ℕ) (w : Watch) (cur out old : List ℕ) (r : Watch) (cur' out' old' : List ℕ) : Type 0 where
+pub record Unrolls (k : Walk) (body : Tree) (least left : ℕ) (w : Watch) (cur out old : List ℕ) (r : Watch) (cur' out' old' : List ℕ) : Type 0 where
   pub goes : Goes left w r
   pub size : length cur' ≡ length cur
   pub size-out : length out' ≡ length out
@@ -143,5 +141,5 @@ pub record Unrolls (k : Task) (body : Tree) (least left : ℕ) (w : Watch) (cur 
   pub watches : WatchesAt k body cur' old' r
 
 -- an array that holds at each place what the arms of a branch join there
-abbrev pub Branched : Task → Trees → List ℕ → List ℕ → Type 0
+abbrev pub Branched : Walk → Trees → List ℕ → List ℕ → Type 0
 Branched k xs t r = (o : ℕ) → o < sizeOf k → getD (table k r) o none ≡ afterAny k xs (table k t) o

@@ -12,12 +12,12 @@ ghost use mathlib.Core.Path.{_≡_};
 ghost use lib.ListN.{length};
 ghost use Prim.Native.Nat.{_+_, _≤_, _<_};
 ghost use Rattle.image.specs.Nodes.{treeAt, childTrees, kindMeant};
-ghost use Rattle.image.specs.declared.Task.{Task};
+ghost use Rattle.image.specs.declared.Walk.{Walk};
 ghost use Rattle.runs.specs.Nodes.{Tree};
 ghost use Rattle.iterations.specs.Iterations.{Empty};
 ghost use Rattle.tight.specs.Steps.{sizeOf, table, afterAll, Walked, Sized, PlainReady, BusReady, OnceReady, Ready, ReadyAll, ReadyRepeat, ReadyLoop, Unrolls, Branched};
 use cycles::Watch;
-use image::Task;
+use image::Walk;
 use image::nodes::BusBlock;
 use image::nodes::Children;
 use image::nodes::Kind;
@@ -28,44 +28,44 @@ use image::nodes::Plain;
 use lined::Step;
 
 // How many places a table has.
-fn size(k: Task) -> usize
+fn size(k: Walk) -> usize
     requires { ⌜ Sized k ⌝ }
     ensures { λ r. ⌜ r ≡ sizeOf k ⌝ }
 {
-    k.sets * bus::period(k.bus)
+    k.task.sets * bus::period(k.bus)
 }
 
 // The step of a plain block.
-fn plain_block(k: Task, p: Plain, t: &mut [u64])
+fn plain_block(k: Walk, p: Plain, t: &mut [u64])
     requires { ⌜ PlainReady k (p .lowest) (p .highest) (now t) ⌝ }
     ensures { λ _. ⌜ Walked k (Tree.plain (p .lowest) (p .highest)) (now (t .entry)) (now (t .exit)) ⌝ }
 {
-    lined::each_row(k.bus, Step::Plain, p.lowest, p.highest, k.sets, t);
+    lined::each_row(k.bus, Step::Plain, p.lowest, p.highest, k.task.sets, t);
 }
 
 // The step of a bus block, by its kind.
-fn bus_block(k: Task, x: BusBlock, t: &mut [u64])
+fn bus_block(k: Walk, x: BusBlock, t: &mut [u64])
     requires { ⌜ BusReady k (x .lowest) (x .highest) (now t) ⌝ }
     ensures { λ _. ⌜ Walked k (Tree.bus (kindMeant (x .kind)) (x .lowest) (x .highest)) (now (t .entry)) (now (t .exit)) ⌝ }
 {
     let kind = x.kind;
     match kind {
-        Kind::May => lined::each_row(k.bus, Step::May, x.lowest, x.highest, k.sets, t),
-        Kind::Always => lined::each_row(k.bus, Step::Always, x.lowest, x.highest, k.sets, t),
+        Kind::May => lined::each_row(k.bus, Step::May, x.lowest, x.highest, k.task.sets, t),
+        Kind::Always => lined::each_row(k.bus, Step::Always, x.lowest, x.highest, k.task.sets, t),
     }
 }
 
 // The step of a block fetched once.
-fn once_block(k: Task, x: Once, t: &mut [u64])
+fn once_block(k: Walk, x: Once, t: &mut [u64])
     requires { ⌜ OnceReady k (x .line) (x .lowest) (x .highest) (x .hit) (now t) ⌝ }
     ensures { λ _. ⌜ Walked k (Tree.once (x .line) (x .lowest) (x .highest) (x .hit)) (now (t .entry)) (now (t .exit)) ⌝ }
 {
     let weight = image::fetched::power(x.line);
-    lined::once(k.bus, x.lowest, x.highest, x.hit, weight, k.sets, t);
+    lined::once(k.bus, x.lowest, x.highest, x.hit, weight, k.task.sets, t);
 }
 
 // The times after a node.
-pub fn walk(image: &[u8], places: &[usize; 256], k: Task, node: usize, t: &mut [u64])
+pub fn walk(image: &[u8], places: &[usize; 256], k: Walk, node: usize, t: &mut [u64])
     requires { ⌜ Ready (now image) k (now places) node (now t) ⌝ }
     ensures { λ _. ⌜ Walked k (treeAt (now (image .entry)) node) (now (t .entry)) (now (t .exit)) ⌝ }
 {
@@ -82,7 +82,7 @@ pub fn walk(image: &[u8], places: &[usize; 256], k: Task, node: usize, t: &mut [
 }
 
 // The times after the children in order.
-fn sequence(image: &[u8], places: &[usize; 256], k: Task, node: usize, c: Children, t: &mut [u64])
+fn sequence(image: &[u8], places: &[usize; 256], k: Walk, node: usize, c: Children, t: &mut [u64])
     requires { ⌜ ReadyAll (now image) k (now places) node (c .place) (c .count) (now t) ⌝ }
     ensures { λ _. ⌜ (length (now (t .exit)) ≡ length (now (t .entry))) × (table k (now (t .exit)) ≡ afterAll k (childTrees (now (image .entry)) (c .place) (c .count)) (table k (now (t .entry)))) ⌝ }
 {
@@ -90,18 +90,18 @@ fn sequence(image: &[u8], places: &[usize; 256], k: Task, node: usize, c: Childr
     let count = c.count;
     let mut i = 0;
     while i < count {
-        let child = image::read::word(image, place + 2 * i);
+        let child = bytes::word(image, place + 2 * i);
         walk(image, places, k, child, t);
         i += 1;
     }
 }
 
 // The times after any one of the children, joined.
-fn branch(image: &[u8], places: &[usize; 256], k: Task, node: usize, c: Children, t: &mut [u64])
+fn branch(image: &[u8], places: &[usize; 256], k: Walk, node: usize, c: Children, t: &mut [u64])
     requires { ⌜ ReadyAll (now image) k (now places) node (c .place) (c .count) (now t) ⌝ }
     ensures { λ _. ⌜ (length (now (t .exit)) ≡ length (now (t .entry))) × Branched k (childTrees (now (image .entry)) (c .place) (c .count)) (now (t .entry)) (now (t .exit)) ⌝ }
 {
-    if 1 < k.sets {
+    if 1 < k.task.sets {
         wide_branch(image, places, k, node, c, t);
         return;
     }
@@ -114,7 +114,7 @@ fn branch(image: &[u8], places: &[usize; 256], k: Task, node: usize, c: Children
 fn wide_branch(
     image: &[u8],
     places: &[usize; 256],
-    k: Task,
+    k: Walk,
     node: usize,
     c: Children,
     t: &mut [u64],
@@ -131,7 +131,7 @@ fn wide_branch(
 fn arms(
     image: &[u8],
     places: &[usize; 256],
-    k: Task,
+    k: Walk,
     node: usize,
     c: Children,
     t: &mut [u64],
@@ -146,7 +146,7 @@ fn arms(
     let count = c.count;
     let mut i = 0;
     while i < count {
-        let child = image::read::word(image, place + 2 * i);
+        let child = bytes::word(image, place + 2 * i);
         times::copy(arm, t, n);
         walk(image, places, k, child, arm);
         times::join(out, arm, n);
@@ -156,11 +156,11 @@ fn arms(
 }
 
 // The times after a loop.
-fn repeat(image: &[u8], places: &[usize; 256], k: Task, node: usize, l: Loop, t: &mut [u64])
+fn repeat(image: &[u8], places: &[usize; 256], k: Walk, node: usize, l: Loop, t: &mut [u64])
     requires { ⌜ ReadyRepeat (now image) k (now places) node l (now t) ⌝ }
     ensures { λ _. ⌜ Walked k (Tree.loop (l .least) (l .greatest) (treeAt (now (image .entry)) (l .body))) (now (t .entry)) (now (t .exit)) ⌝ }
 {
-    if 1 < k.sets {
+    if 1 < k.task.sets {
         wide_repeat(image, places, k, node, l, t);
         return;
     }
@@ -170,7 +170,7 @@ fn repeat(image: &[u8], places: &[usize; 256], k: Task, node: usize, l: Loop, t:
 }
 
 // The same where the image has lines.
-fn wide_repeat(image: &[u8], places: &[usize; 256], k: Task, node: usize, l: Loop, t: &mut [u64])
+fn wide_repeat(image: &[u8], places: &[usize; 256], k: Walk, node: usize, l: Loop, t: &mut [u64])
     requires { ⌜ ReadyRepeat (now image) k (now places) node l (now t) ⌝ }
     ensures { λ _. ⌜ Walked k (Tree.loop (l .least) (l .greatest) (treeAt (now (image .entry)) (l .body))) (now (t .entry)) (now (t .exit)) ⌝ }
 {
@@ -183,7 +183,7 @@ fn wide_repeat(image: &[u8], places: &[usize; 256], k: Task, node: usize, l: Loo
 fn turns(
     image: &[u8],
     places: &[usize; 256],
-    k: Task,
+    k: Walk,
     node: usize,
     l: Loop,
     t: &mut [u64],
@@ -236,7 +236,7 @@ fn turns(
 fn unroll(
     image: &[u8],
     places: &[usize; 256],
-    k: Task,
+    k: Walk,
     body: usize,
     least: usize,
     left: usize,

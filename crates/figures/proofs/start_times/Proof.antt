@@ -1,8 +1,7 @@
 -- Before each turn a place holds 0 where it is one of the first i starts, and no time elsewhere; so after the last the array holds the start table.
 use borrow.Author.Needs.{needs}
-use mathlib.Core.Path.{_≡_, sym, _∙_, ap, refl}
-use mathlib.Core.Bool.{Bool, true, false, cond, or-true, or-false}
-use mathlib.Core.Option.{none, some}
+use mathlib.Core.Path.{_≡_, sym, _∙_, refl}
+use mathlib.Core.Bool.{cond, or-true, or-false}
 use mathlib.Core.List.{List}
 use lib.Dec.{eqb}
 use lib.ListN.{length, getD, set, length-set, getD-replicate}
@@ -11,41 +10,35 @@ use borrow.Author.Tests.{eqb-true, eqb-false}
 use native.Mathlib.Omega.{arith}
 use Prim.Native.Nat.{ℕ, _+_, _-_, _≤_, _<_}
 use Rattle.runs.specs.Runs.{listed}
-use Rattle.runs.specs.Figures.{noTime, startTimes}
+use Rattle.runs.specs.Figures.{noTime}
 use Rattle.runs.proofs.Cases.{either}
-use Rattle.runs.proofs.Joins.{row-same}
-use Rattle.bus.specs.declared.Bus.{Bus}
-use Rattle.image.specs.Bytes.{byteAt, wordAt, bytes}
-use Rattle.image.specs.Nodes.{startsOf}
-use Rattle.times.specs.Arrays.{timeOf, tableOf}
-use Rattle.times.proofs.Tables.{time-none, time-some}
-use Rattle.exits.specs.Exits.{busPeriod}
-use Rattle.figures.specs.Steps.{Started}
+use Rattle.image.specs.Conditions.{lengthAt}
+use Rattle.bytes.specs.Bytes.{byteAt, bytes}
 use Rattle.image.proofs.Lists.{listed-more}
 use Rattle.figures.proofs.start_times.Statement.{statement}
 use Rattle.figures.proofs.start_times.Tie as tie
 
 -- one more start is written
-written : (s out : List ℕ) (i at o : ℕ) → at ≡ byteAt s (9 + i) → at < length out → getD out o 0 ≡ cond (listed (bytes s 9 i) o) 0 noTime
-    → getD (set out at 0) o 0 ≡ cond (listed (bytes s 9 (i + 1)) o) 0 noTime
-written s out i at o e l h =
+written : (s out : List ℕ) (p i at o : ℕ) → at ≡ byteAt s (p + i) → at < length out → getD out o 0 ≡ cond (listed (bytes s p i) o) 0 noTime
+    → getD (set out at 0) o 0 ≡ cond (listed (bytes s p (i + 1)) o) 0 noTime
+written s out p i at o e l h =
     either (eqb at o)
-    (λ q. let same : o ≡ at = sym (eqb-true at o q) in rw (listed-more s 9 i o, ← e, q, or-true, same) (getD-set-same out at 0 0 l))
-    (λ q. rw (listed-more s 9 i o, ← e, q, or-false) (getD-set-other out at o 0 0 (λ z. eqb-false at o q (sym z)) ∙ h))
+    (λ q. let same : o ≡ at = sym (eqb-true at o q) in rw (listed-more s p i o, ← e, q, or-true, same) (getD-set-same out at 0 0 l))
+    (λ q. rw (listed-more s p i o, ← e, q, or-false) (getD-set-other out at o 0 0 (λ z. eqb-false at o q (sym z)) ∙ h))
 
 abbrev Inv-loop : tie.InvT-loop
-Inv-loop image n out₀ i₀ out i =
-    (i ≤ n) × (length out ≡ 256) × ((o : ℕ) → o < 256 → getD out o 0 ≡ cond (listed (bytes image 9 i) o) 0 noTime)
+Inv-loop image place period n out₀ i₀ out i =
+    (i ≤ n) × (length out ≡ 256) × ((o : ℕ) → o < 256 → getD out o 0 ≡ cond (listed (bytes image place i) o) 0 noTime)
 
 abbrev μ-loop : tie.MeasureT-loop
-μ-loop image n out₀ i₀ out i = n - i
+μ-loop image place period n out₀ i₀ out i = n - i
 
 loop-holds : tie.Need-loop-holds Inv-loop μ-loop
 unfolding bytes listed
 loop-holds c = (omega arith, refl, λ o h. getD-replicate 256 o noTime 0 h)
 
 add-byte : tie.Need-add-byte Inv-loop μ-loop
-add-byte c = omega (arith, c .before .before .before .pre .few)
+add-byte c = omega (arith, c .before .before .before .pre .few, c .before .before .before .pre .near)
 
 byte-requires : tie.Need-byte-requires Inv-loop μ-loop
 byte-requires c κs = search needs
@@ -66,17 +59,18 @@ loop-again : tie.Need-loop-again Inv-loop μ-loop
 loop-again c =
     let l = c .before .before .loop in
     let s = c .before .before .before .before .args .image .now in
+    let place = c .before .before .before .before .args .place in
     let e = c .byte .ensures in
-    (omega arith, simp length-set (l .inv .1), λ o h. written s (l .out) (l .i) (c .byte .result) o (e .0) (omega arith) (l .inv .2 o h))
+    (omega arith, simp length-set (l .inv .1), λ o h. written s (l .out) place (l .i) (c .byte .result) o (e .0) (omega arith) (l .inv .2 o h))
 
 returns : tie.Need-returns Inv-loop μ-loop
 returns c =
     let l = c .before .loop in
     let st : tie.Start Inv-loop μ-loop = c .before .before .before in
     let s = st .args .image .now in
-    let few = st .pre .ranges .period-most in
-    let e : l .i ≡ wordAt s 7 = omega (arith, st .pre .count) in
-    (l .inv .1, (λ o h. rw e at (l .inv .2 o (omega arith))))
+    let few = st .pre .most in
+    let e : l .i ≡ lengthAt s 1 = omega (arith, st .pre .count) in
+    (l .inv .1, (λ o h. rw (e, st .pre .stands) at (l .inv .2 o (omega arith))))
 
 pub start-times-spec : {M : Type 1} → statement M
 start-times-spec =

@@ -3,17 +3,18 @@ use borrow.Author.Needs.{needs}
 use Rattle.image.proofs.whole.Statement.{statement}
 use Rattle.image.proofs.whole.Tie as tie
 use Rattle.runs.specs.Nodes.{depth, visits}
-use Rattle.image.specs.Nodes.{treeAt, linesOf}
+use Rattle.bytes.specs.Bytes.{wordAt}
+use Rattle.image.specs.Nodes.{fieldAt, treeAt, linesOf}
+use Rattle.image.proofs.Kept.{first-end, first-fine}
 use Rattle.image.specs.Judged.{wholeOf}
 use Rattle.runs.specs.Lines.{power}
-use Rattle.image.specs.Bytes.{byteAt}
+use Rattle.schedule.specs.Said.{said}
 use Rattle.image.specs.Conditions.{Passed}
-use Rattle.image.proofs.Numbers.{product-fits}
+use Rattle.schedule.proofs.Numbers.{product-fits}
 use Rattle.image.proofs.Fetches.{lines-few, few-sets}
 use mathlib.Core.Path.{_≡_, _∙_, ap}
 use mathlib.Core.List.{List}
-use native.Mathlib.Nat.{mul-le-mul}
-use Prim.Native.Nat.{ℕ, suc, _+_, _-_, _*_, _≤_, _<_}
+use Prim.Native.Nat.{ℕ, _+_, _-_, _*_, _≤_, _<_}
 use native.Mathlib.Omega.{arith}
 use borrow.Author.Tests.{lt-ltb, le-ltb}
 
@@ -52,8 +53,10 @@ returns-3 c =
       lt-ltb 100000 (visits (treeAt s (n - 3))) (omega (arith, v, c .if3 .taken)),
     )
 
-bus-at-requires : tie.Need-bus-at-requires
-bus-at-requires c κs = search needs
+period-at-requires : tie.Need-period-at-requires
+period-at-requires c κs =
+    let start = c .before .before .before .before .before .before .before in
+    first-fine (start .args .image .now) (start .pre .0 .passed 0 (omega (arith, c .before .before .before .before .before .if1 .left)))
 
 sub-lines : tie.Need-sub-lines
 sub-lines c = search needs
@@ -75,46 +78,42 @@ power-requires c κs =
     omega (arith, c .lines .ensures, few-lines (start .args .image .now) (start .args .count) (c .before .before .before .before .before .before .before .if1 .left) (start .pre .0 .passed))
 
 mul-if4 : tie.Need-mul-if4
-mul-if4 c = let b = c .before .before .before .bus-at .ensures in product-fits _ _ (omega (arith, b .1)) (omega (arith, b .2))
-
-mul-if4-2 : tie.Need-mul-if4-2
-mul-if4-2 c =
-    let start = c .before .before .before .before .before .before .before .before .before .before .before in
-    let b = c .before .before .before .bus-at .ensures in
-    let few = few-lines (start .args .image .now) (start .args .count) (c .before .before .before .before .before .before .before .before .before .if1 .left) (start .pre .0 .passed) in
+mul-if4 c =
+    let start = c .before .before .before .before .before .before .before .before .before .before in
+    let few = few-lines (start .args .image .now) (start .args .count) (c .before .before .before .before .before .before .before .before .if1 .left) (start .pre .0 .passed) in
     let most = few-sets _ few in
-    let l = c .before .before .lines .ensures in
-    let k = c .before .before .before .bus-at .result in
-    let h : k .cores ≤ 255 = omega (arith, b .1) in
-    let g : k .slot ≤ 255 = omega (arith, b .2) in
-    let p : k .cores * k .slot ≤ 255 * 255 = mul-le-mul h g in
-    product-fits _ _ (omega (arith, p)) (omega (arith, c .before .power .ensures ∙ ap power l, most))
+    product-fits _ _ (omega (arith, c .before .before .period-at .ensures .1)) (omega (arith, c .power .ensures ∙ ap power (c .before .lines .ensures), most))
 
 returns-4 : tie.Need-returns-4
 unfolding wholeOf
 returns-4 c =
-    let start = c .before .before .before .before .before .before .before .before .before .before .before .before in
+    let start = c .before .before .before .before .before .before .before .before .before .before .before in
     let s = start .args .image .now in
     let n = start .args .count in
     let q : n - 2 - 1 ≡ n - 3 = omega arith in
-    let w = c .before .before .before .before .before .before .before .before .before .weights .ensures in
+    let w = c .before .before .before .before .before .before .before .before .weights .ensures in
     let d = rw q at (w .deep) in
     let v = rw q at (w .long) in
-    let b = c .before .before .before .before .bus-at .ensures .0 in
-    let x = c .before .before .power .ensures ∙ ap power (c .before .before .before .lines .ensures) in
-    let wide : 1024 < byteAt s 3 * byteAt s 4 * power (linesOf s (n - 2)) = omega (arith, rw (b, x) at (c .if4 .taken)) in
+    let x = c .before .power .ensures ∙ ap power (c .before .before .lines .ensures) in
+    let wide : 1024 < said s .period * power (linesOf s (n - 2)) = omega (arith, rw (c .before .before .before .period-at .ensures .0, x) at (c .if4 .taken)) in
     simp (
-      le-ltb n 3 (c .before .before .before .before .before .before .before .before .before .before .if1 .left),
-      le-ltb 24 (depth (treeAt s (n - 3))) (omega (arith, d, c .before .before .before .before .before .before .before .if2 .left)),
-      le-ltb 100000 (visits (treeAt s (n - 3))) (omega (arith, v, c .before .before .before .before .before .if3 .left)),
-      lt-ltb 1024 (byteAt s 3 * byteAt s 4 * power (linesOf s (n - 2))) wide,
+      le-ltb n 3 (c .before .before .before .before .before .before .before .before .before .if1 .left),
+      le-ltb 24 (depth (treeAt s (n - 3))) (omega (arith, d, c .before .before .before .before .before .before .if2 .left)),
+      le-ltb 100000 (visits (treeAt s (n - 3))) (omega (arith, v, c .before .before .before .before .if3 .left)),
+      lt-ltb 1024 (said s .period * power (linesOf s (n - 2))) wide,
     )
 
 word-requires : tie.Need-word-requires
 word-requires c κs = search needs
 
-sub-t16 : tie.Need-sub-t16
-sub-t16 c = search needs
+add-word : tie.Need-add-word
+add-word c = omega (arith, c .word .ensures .1)
+
+word-requires-2 : tie.Need-word-requires-2
+word-requires-2 c κs = omega (arith, c .word .ensures .1)
+
+sub-t20 : tie.Need-sub-t20
+sub-t20 c = search needs
 
 returns-5 : tie.Need-returns-5
 unfolding wholeOf
@@ -126,16 +125,18 @@ returns-5 c =
     let w = c .before .before .before .before .before .before .before .before .before .before .weights .ensures in
     let d = rw q at (w .deep) in
     let v = rw q at (w .long) in
-    let b = c .before .before .before .before .before .bus-at .ensures .0 in
+    let p = c .before .before .before .before .before .period-at .ensures .0 in
     let l = c .before .before .before .before .lines .ensures in
     let x = c .before .before .before .power .ensures ∙ ap power l in
-    let narrow : byteAt s 3 * byteAt s 4 * power (linesOf s (n - 2)) ≤ 1024 = omega (arith, rw (b, x) at (c .before .if4 .left)) in
-    rw (b, c .word .ensures .0, x, l)
+    let narrow : said s .period * power (linesOf s (n - 2)) ≤ 1024 = omega (arith, rw (p, x) at (c .before .before .if4 .left)) in
+    let place : 4 + c .before .word .result ≡ fieldAt s 1 + 1 = omega (arith, first-end s, c .before .word .ensures .0) in
+    let starts = c .word2 .ensures .0 ∙ ap (wordAt s) place in
+    rw (p, starts, x, l)
     (simp (
       le-ltb n 3 (c .before .before .before .before .before .before .before .before .before .before .before .if1 .left),
       le-ltb 24 (depth (treeAt s (n - 3))) (omega (arith, d, c .before .before .before .before .before .before .before .before .if2 .left)),
       le-ltb 100000 (visits (treeAt s (n - 3))) (omega (arith, v, c .before .before .before .before .before .before .if3 .left)),
-      le-ltb 1024 (byteAt s 3 * byteAt s 4 * power (linesOf s (n - 2))) narrow,
+      le-ltb 1024 (said s .period * power (linesOf s (n - 2))) narrow,
     ))
 
 pub whole-spec : {M : Type 1} → statement M
@@ -147,13 +148,14 @@ whole-spec =
     weights-requires
     returns-2
     returns-3
-    bus-at-requires
+    period-at-requires
     sub-lines
     lines-requires
     power-requires
     mul-if4
-    mul-if4-2
     returns-4
     word-requires
-    sub-t16
+    add-word
+    word-requires-2
+    sub-t20
     returns-5)

@@ -14,12 +14,6 @@ judge-requires c κs = search needs
 enum-known-verdict : tie.Need-enum-known-verdict
 enum-known-verdict c = search needs
 
-period-requires : tie.Need-period-requires
-period-requires c κs =
-    let j = c .before .before .before .judge in
-    let v = c .before .verdict .given in
-    j .ensures .sound (v .0 .0) (v .1) .bus
-
 put-requires : tie.Need-put-requires
 put-requires c κs = search needs
 
@@ -34,11 +28,11 @@ same-length c = search needs
 
 returns-2 : tie.Need-returns-2
 returns-2 c =
-    let a = c .before .before .before .before .before .before .before .before .before .before .before .before .args in
-    let j = c .before .before .before .before .before .before .before .before .judge in
-    let v = c .before .before .before .before .before .before .verdict .given in
+    let a = c .before .before .before .before .before .before .before .before .before .before .before .args in
+    let j = c .before .before .before .before .before .before .before .judge in
+    let v = c .before .before .before .before .before .verdict .given in
     judge-accepted (a .image .now) (a .answer .now) (omega arith) (j .result .verdict) (j .result .places) (j .ensures) (v .0 .0)
-    (c .before .before .before .before .period .result) (c .before .before .put .last .0) (v .1) (c .before .before .before .before .period .ensures) (c .before .before .put .ensures)
+    (c .before .before .put .last .0) (v .1) (c .before .before .put .ensures)
 
 same-length-2 : tie.Need-same-length-2
 same-length-2 c = search needs
@@ -58,7 +52,6 @@ slotfigures-judge-spec =
     returns
     judge-requires
     enum-known-verdict
-    period-requires
     put-requires
     enum-known-verdict-2
     refuse-requires

@@ -4,14 +4,13 @@ use mathlib.Core.Path.{_≡_, sym, _∙_, ap}
 use mathlib.Core.Bool.{Bool, false, _||_}
 use lib.ListN.{getD}
 use native.Mathlib.Nat.{add-zero, zero-add, sub-zero}
-use Rattle.runs.specs.Slots.{equal}
 use Rattle.runs.specs.Nodes.{visitsAll}
 use Rattle.runs.specs.Figures.{costAll, costAny}
 use Rattle.runs.proofs.Joins.{or-joins}
-use Rattle.bus.specs.Waits.{slotsOf}
+use Rattle.bus.specs.Owning.{busMeant}
 use Rattle.image.specs.Nodes.{treeAt, childTrees}
 use Rattle.image.proofs.Walks.{all-done, any-done}
-use Rattle.exits.specs.Exits.{busPeriod, Within}
+use Rattle.exits.specs.Exits.{Within}
 use Rattle.published.specs.Steps.{bits, afterAll, afterAny}
 use Rattle.published.proofs.Joins.{empty-at, empty-within, join-within}
 use Rattle.published.proofs.Parts.{cost-all-done, cost-any-done}
@@ -39,7 +38,7 @@ use Rattle.published.proofs.walk.Reads as walk
 use Rattle.published.proofs.walk.Kinds as walk-kinds
 use Rattle.published.proofs.+branch+repeat+sequence+unroll+walk.Lts-walk as walk-lts
 use Rattle.image.proofs.nodes.node_at.Reads as node-at-reads
-use Rattle.image.proofs.read.word.Reads as word-reads
+use Rattle.bytes.proofs.word.Reads as word-reads
 use Rattle.offsets.proofs.empty.Reads as empty-reads
 use Rattle.offsets.proofs.join.Reads as join-reads
 use Rattle.published.proofs.before_first.Reads as before-first-reads
@@ -165,12 +164,12 @@ abbrev branch-Inv-loop : branch-lts.InvT-loop
 branch-Inv-loop image places k node s place count cost₀ out₀ i₀ cost out i =
     (i ≤ count)
     × (visitsAll (childTrees image (place + 2 * i) (count - i)) ≤ 100000)
-    × Within (busPeriod (k .bus)) out
-    × ((o : ℕ) → o < busPeriod (k .bus)
+    × Within (k .bus .period) out
+    × ((o : ℕ) → o < k .bus .period
     → (getD (bits (k .bus) out) o false || afterAny (k .bus) (childTrees image (place + 2 * i) (count - i)) (bits (k .bus) s) o)
     ≡ afterAny (k .bus) (childTrees image place count) (bits (k .bus) s) o)
-    × (max cost (costAny (equal (slotsOf (k .bus))) (childTrees image (place + 2 * i) (count - i)) (bits (k .bus) s))
-    ≡ costAny (equal (slotsOf (k .bus))) (childTrees image place count) (bits (k .bus) s))
+    × (max cost (costAny (busMeant (k .bus)) (childTrees image (place + 2 * i) (count - i)) (bits (k .bus) s))
+    ≡ costAny (busMeant (k .bus)) (childTrees image place count) (bits (k .bus) s))
 
 abbrev branch-μ-loop : branch-lts.MeasureT-loop
 branch-μ-loop image places k node s place count cost₀ out₀ i₀ cost out i = count - i
@@ -258,7 +257,7 @@ branch-returns t c =
           (any-done _ _ false _||_ (λ d v. v) (a .image .now) (a .c .place) (a .c .count) (l .i) (omega arith) (bits (a .k .bus) (a .s)) o) ∙ or-joins .right _)
           ∙ l .inv .3 o h;
       within = l .inv .2;
-      costs = omega (arith, cost-any-done (equal (slotsOf (a .k .bus))) (a .image .now) (a .c .place) (a .c .count) (l .i) (omega arith) (bits (a .k .bus) (a .s)), l .inv .4);
+      costs = omega (arith, cost-any-done (busMeant (a .k .bus)) (a .image .now) (a .c .place) (a .c .count) (l .i) (omega arith) (bits (a .k .bus) (a .s)), l .inv .4);
     }
 
 -- ---- repeat
@@ -310,10 +309,10 @@ abbrev sequence-Inv-loop : sequence-lts.InvT-loop
 sequence-Inv-loop image places k node place count cost₀ cur₀ i₀ cost cur i =
     (i ≤ count)
     × (cost + 65535 * visitsAll (childTrees image (place + 2 * i) (count - i)) ≤ 6553500000)
-    × Within (busPeriod (k .bus)) cur
+    × Within (k .bus .period) cur
     × (afterAll (k .bus) (childTrees image (place + 2 * i) (count - i)) (bits (k .bus) cur) ≡ afterAll (k .bus) (childTrees image place count) (bits (k .bus) cur₀))
-    × (cost + costAll (equal (slotsOf (k .bus))) (childTrees image (place + 2 * i) (count - i)) (bits (k .bus) cur)
-    ≡ costAll (equal (slotsOf (k .bus))) (childTrees image place count) (bits (k .bus) cur₀))
+    × (cost + costAll (busMeant (k .bus)) (childTrees image (place + 2 * i) (count - i)) (bits (k .bus) cur)
+    ≡ costAll (busMeant (k .bus)) (childTrees image place count) (bits (k .bus) cur₀))
 
 abbrev sequence-μ-loop : sequence-lts.MeasureT-loop
 sequence-μ-loop image places k node place count cost₀ cur₀ i₀ cost cur i = count - i
@@ -396,7 +395,7 @@ sequence-returns t c =
     record {
       exited = sym (all-done _ _ false _||_ (λ d v. v) (a .image .now) (a .c .place) (a .c .count) (l .i) (omega arith) (bits (a .k .bus) (l .cur))) ∙ l .inv .3;
       within = l .inv .2;
-      costs = omega (arith, cost-all-done (equal (slotsOf (a .k .bus))) (a .image .now) (a .c .place) (a .c .count) (l .i) (omega arith) (bits (a .k .bus) (l .cur)), l .inv .4);
+      costs = omega (arith, cost-all-done (busMeant (a .k .bus)) (a .image .now) (a .c .place) (a .c .count) (l .i) (omega arith) (bits (a .k .bus) (l .cur)), l .inv .4);
     }
 
 -- ---- unroll

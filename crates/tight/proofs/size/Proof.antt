@@ -7,10 +7,10 @@ use Rattle.tight.proofs.size.Statement.{statement}
 use Rattle.tight.proofs.size.Tie as tie
 
 period-requires : tie.Need-period-requires
-period-requires c κs = c .pre .ranges
+period-requires c κs = tt
 
 mul-result : tie.Need-mul-result
-mul-result c = omega (arith, mul-le-mul-right (c .before .period .result) (c .before .before .pre .few), c .before .period .ensures, c .before .before .pre .ranges .period-most)
+mul-result c = omega (arith, mul-le-mul-right (c .before .period .result) (c .before .before .pre .few), c .before .period .ensures, c .before .before .pre .fit .most)
 
 returns : tie.Need-returns
 returns c = ap₂ _*_ (c .before .before .pre .sets-is) (c .before .period .ensures)

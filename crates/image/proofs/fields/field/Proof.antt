@@ -3,6 +3,7 @@ use borrow.Author.Needs.{needs}
 use Rattle.image.proofs.fields.field.Statement.{statement}
 use Rattle.image.proofs.fields.field.Tie as tie
 use Rattle.image.specs.Fields.{fieldOf}
+use Rattle.image.proofs.Kept.{later-field}
 use mathlib.Core.Path.{sym, _∙_}
 use borrow.Author.Tests.{le-leb, lt-leb, lt-ltb, le-ltb, not-true, not-false}
 
@@ -75,7 +76,10 @@ add-value-ok : tie.Need-add-value-ok
 add-value-ok c = search needs
 
 value-ok-requires : tie.Need-value-ok-requires
-value-ok-requires c κs = search needs
+value-ok-requires c κs =
+    let start = c .before .before .before .before .before .before .before .before .before .before in
+    let ok = sym (c .before .before .before .before .before .before .tag-ok .ensures) ∙ not-false _ (c .before .before .before .before .before .if2 .left) in
+    (search needs, search needs, λ n m. start .pre .1 (later-field _ _ ok n m))
 
 add-children-ok : tie.Need-add-children-ok
 add-children-ok c = search needs

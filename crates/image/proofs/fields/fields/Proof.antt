@@ -2,6 +2,7 @@
 use Rattle.image.proofs.fields.fields.Statement.{statement}
 use Rattle.image.proofs.fields.fields.Tie as tie
 use Rattle.image.proofs.Passing.{next-at}
+use Rattle.image.proofs.Kept.{first-fine}
 use Rattle.image.proofs.Scans.{Here, here-first, here-good, here-next, placed-more, placed-none, here-stopped, here-whole}
 use mathlib.Core.Path.{refl, sym, _∙_}
 use mathlib.Core.Logic.{⊎-elim}
@@ -19,7 +20,7 @@ loop-holds : tie.Need-loop-holds Inv-loop μ-loop
 loop-holds c = here-first _ _ refl
 
 field-requires : tie.Need-field-requires Inv-loop μ-loop
-field-requires c κs = omega arith
+field-requires c κs = (omega arith, λ l. first-fine _ (c .before .loop .inv .passed 0 l))
 
 enum-known-f : tie.Need-enum-known-f Inv-loop μ-loop
 enum-known-f c = c .match .keys1

@@ -3,7 +3,7 @@ use borrow.Author.Needs.{needs}
 use Rattle.image.proofs.nodes.node_at.Statement.{statement}
 use Rattle.image.proofs.nodes.node_at.Tie as tie
 use Rattle.image.specs.Nodes.{nodeFrom}
-use Rattle.image.specs.Bytes.{byteAt}
+use Rattle.bytes.specs.Bytes.{byteAt}
 use borrow.Author.Tests.{ne-eqb}
 use mathlib.Core.Path.{sym, _∙_}
 

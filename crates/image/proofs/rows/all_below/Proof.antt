@@ -3,7 +3,7 @@ use borrow.Author.Needs.{needs}
 use Rattle.image.proofs.rows.all_below.Statement.{statement}
 use Rattle.image.proofs.rows.all_below.Tie as tie
 use Rattle.image.specs.Fields.{below}
-use Rattle.image.specs.Bytes.{wordAt}
+use Rattle.bytes.specs.Bytes.{wordAt}
 use mathlib.Core.Path.{_≡_, sym, _∙_}
 use mathlib.Core.Bool.{true, _&&_}
 use mathlib.Core.List.{List}

@@ -9,11 +9,14 @@ use mathlib.Core.Logic.{⊎-elim, inl, inr}
 between-requires : tie.Need-between-requires
 between-requires c κs = search needs
 
-even-between-requires : tie.Need-even-between-requires
-even-between-requires c κs = search needs
+parity-between-requires : tie.Need-parity-between-requires
+parity-between-requires c κs = search needs
 
-even-between-requires-2 : tie.Need-even-between-requires-2
-even-between-requires-2 c κs = search needs
+parity-between-requires-2 : tie.Need-parity-between-requires-2
+parity-between-requires-2 c κs = search needs
+
+parity-between-requires-3 : tie.Need-parity-between-requires-3
+parity-between-requires-3 c κs = search needs
 
 returns : tie.Need-returns
 unfolding lengthOk
@@ -29,11 +32,11 @@ returns-3 c = rw (c .match .keys3)
 
 returns-4 : tie.Need-returns-4
 unfolding lengthOk
-returns-4 c = rw (c .before .match .keys4) (c .even-between .ensures)
+returns-4 c = rw (c .before .match .keys4) (c .parity-between .ensures)
 
 returns-5 : tie.Need-returns-5
 unfolding lengthOk
-returns-5 c = rw (c .before .match .keys5) (c .even-between2 .ensures)
+returns-5 c = rw (c .before .match .keys5) (c .parity-between2 .ensures)
 
 returns-6 : tie.Need-returns-6
 unfolding lengthOk
@@ -45,18 +48,23 @@ returns-7 c = rw (c .match .keys7)
 
 returns-8 : tie.Need-returns-8
 unfolding lengthOk
-returns-8 c =
+returns-8 c = rw (c .before .match .keys8) (c .parity-between3 .ensures)
+
+returns-9 : tie.Need-returns-9
+unfolding lengthOk
+returns-9 c =
     let r = c .match .rest in
     let tag = c .before .args .tag in
     simp (
-      ne-eqb tag 1 (λ e. r .0 .0 .0 .0 .0 .0 .1 (inl e)),
-      ne-eqb tag 2 (r .0 .0 .0 .0 .0 .1),
-      ne-eqb tag 3 (r .0 .0 .0 .0 .1),
-      ne-eqb tag 4 (λ e. r .0 .0 .0 .0 .0 .0 .1 (inr e)),
-      ne-eqb tag 5 (r .0 .0 .0 .1),
-      ne-eqb tag 6 (r .0 .0 .1),
-      ne-eqb tag 7 (r .0 .1),
-      ne-eqb tag 10 (r .1),
+      ne-eqb tag 1 (λ e. r .0 .0 .0 .0 .0 .0 .0 .1 (inl e)),
+      ne-eqb tag 2 (r .0 .0 .0 .0 .0 .0 .1),
+      ne-eqb tag 3 (r .0 .0 .0 .0 .0 .1),
+      ne-eqb tag 4 (λ e. r .0 .0 .0 .0 .0 .0 .0 .1 (inr e)),
+      ne-eqb tag 5 (r .0 .0 .0 .0 .1),
+      ne-eqb tag 6 (r .0 .0 .0 .1),
+      ne-eqb tag 7 (r .0 .0 .1),
+      ne-eqb tag 10 (r .0 .1),
+      ne-eqb tag 9 (r .1),
     )
 
 pub length-ok-spec : {M : Type 1} → statement M
@@ -64,8 +72,9 @@ length-ok-spec =
     tie.close
     (tie.spec
     between-requires
-    even-between-requires
-    even-between-requires-2
+    parity-between-requires
+    parity-between-requires-2
+    parity-between-requires-3
     returns
     returns-2
     returns-3
@@ -73,4 +82,5 @@ length-ok-spec =
     returns-5
     returns-6
     returns-7
-    returns-8)
+    returns-8
+    returns-9)

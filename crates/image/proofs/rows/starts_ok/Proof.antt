@@ -3,7 +3,7 @@ use borrow.Author.Needs.{needs}
 use Rattle.image.proofs.rows.starts_ok.Statement.{statement}
 use Rattle.image.proofs.rows.starts_ok.Tie as tie
 use Rattle.image.specs.Fields.{startsOk}
-use Rattle.image.specs.Bytes.{byteAt}
+use Rattle.bytes.specs.Bytes.{byteAt}
 use mathlib.Core.Path.{_≡_, sym, _∙_}
 use mathlib.Core.Bool.{true, _&&_}
 use mathlib.Core.List.{List}

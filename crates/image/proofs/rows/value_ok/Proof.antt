@@ -2,11 +2,8 @@
 use borrow.Author.Needs.{needs}
 use Rattle.image.proofs.rows.value_ok.Statement.{statement}
 use Rattle.image.proofs.rows.value_ok.Tie as tie
-use Rattle.image.specs.Fields.{valueOk, startsOk, blockOk, onceOk}
-use Rattle.bus.specs.declared.Bus.{Bus}
-use Rattle.image.proofs.Numbers.{product-fits}
-use mathlib.Core.Path.{sym, _∙_, ap}
-use Prim.Native.Nat.{_*_}
+use Rattle.image.specs.Fields.{valueOk}
+use mathlib.Core.Path.{sym}
 use borrow.Author.Tests.{ne-eqb}
 use native.Mathlib.Omega.{arith}
 
@@ -28,11 +25,8 @@ byte-requires-3 c κs = search needs
 bus-ok-requires : tie.Need-bus-ok-requires
 bus-ok-requires c κs = search needs
 
-bus-at-requires : tie.Need-bus-at-requires
-bus-at-requires c κs = search needs
-
-mul-starts-ok : tie.Need-mul-starts-ok
-mul-starts-ok c = product-fits _ _ (omega (arith, c .before .bus-at .ensures .1)) (omega (arith, c .before .bus-at .ensures .2))
+period-at-requires : tie.Need-period-at-requires
+period-at-requires c κs = c .before .before .pre .2 (λ e. omega (arith, c .match .keys2, e)) (λ e. omega (arith, c .match .keys2, e))
 
 starts-ok-requires : tie.Need-starts-ok-requires
 starts-ok-requires c κs = search needs
@@ -49,9 +43,6 @@ word-requires-2 c κs = search needs
 plain-ok-requires : tie.Need-plain-ok-requires
 plain-ok-requires c κs = search needs
 
-bus-at-requires-2 : tie.Need-bus-at-requires-2
-bus-at-requires-2 c κs = search needs
-
 byte-requires-4 : tie.Need-byte-requires-4
 byte-requires-4 c κs = search needs
 
@@ -67,6 +58,9 @@ add-byte-4 c = search needs
 byte-requires-6 : tie.Need-byte-requires-6
 byte-requires-6 c κs = search needs
 
+most-at-requires : tie.Need-most-at-requires
+most-at-requires c κs = c .before .before .before .before .before .pre .2 (λ e. omega (arith, c .before .before .before .match .keys4, e)) (λ e. omega (arith, c .before .before .before .match .keys4, e))
+
 block-ok-requires : tie.Need-block-ok-requires
 block-ok-requires c κs = search needs
 
@@ -81,9 +75,6 @@ word-requires-4 c κs = search needs
 
 loop-ok-requires : tie.Need-loop-ok-requires
 loop-ok-requires c κs = search needs
-
-bus-at-requires-3 : tie.Need-bus-at-requires-3
-bus-at-requires-3 c κs = search needs
 
 byte-requires-7 : tie.Need-byte-requires-7
 byte-requires-7 c κs = search needs
@@ -106,8 +97,14 @@ add-word-3 c = search needs
 word-requires-5 : tie.Need-word-requires-5
 word-requires-5 c κs = search needs
 
+most-at-requires-2 : tie.Need-most-at-requires-2
+most-at-requires-2 c κs = c .before .before .before .before .before .before .pre .2 (λ e. omega (arith, c .before .before .before .before .match .keys6, e)) (λ e. omega (arith, c .before .before .before .before .match .keys6, e))
+
 once-ok-requires : tie.Need-once-ok-requires
 once-ok-requires c κs = search needs
+
+schedule-ok-requires : tie.Need-schedule-ok-requires
+schedule-ok-requires c κs = search needs
 
 returns : tie.Need-returns
 unfolding valueOk
@@ -115,10 +112,7 @@ returns c = rw (c .before .before .before .before .match .keys1, sym (c .before 
 
 returns-2 : tie.Need-returns-2
 unfolding valueOk
-returns-2 c =
-    let a = c .before .before .before .before .before .args in
-    rw (c .before .before .before .match .keys2)
-    (c .starts-ok .ensures ∙ ap (λ (x : Bus). startsOk (a .image .now) (a .body) (a .len) 0 (x .cores * x .slot)) (c .before .before .bus-at .ensures .0))
+returns-2 c = rw (c .before .before .match .keys2, sym (c .before .period-at .ensures .0)) (c .starts-ok .ensures)
 
 returns-3 : tie.Need-returns-3
 unfolding valueOk
@@ -127,8 +121,8 @@ returns-3 c = rw (c .before .before .before .match .keys3, sym (c .before .befor
 returns-4 : tie.Need-returns-4
 unfolding valueOk
 returns-4 c =
-    rw (c .before .before .before .before .before .match .keys4, sym (c .before .before .before .byte4 .ensures .0), sym (c .before .before .byte5 .ensures .0), sym (c .before .byte6 .ensures .0))
-    (c .block-ok .ensures ∙ ap (λ (x : Bus). blockOk (c .before .before .before .byte4 .result) (c .before .before .byte5 .result) (c .before .byte6 .result) (x .slot)) (c .before .before .before .before .bus-at2 .ensures .0))
+    rw (c .before .before .before .before .before .match .keys4, sym (c .before .before .before .before .byte4 .ensures .0), sym (c .before .before .before .byte5 .ensures .0), sym (c .before .before .byte6 .ensures .0), sym (c .before .most-at .ensures))
+    (c .block-ok .ensures)
 
 returns-5 : tie.Need-returns-5
 unfolding valueOk
@@ -137,15 +131,27 @@ returns-5 c = rw (c .before .before .before .match .keys5, sym (c .before .befor
 returns-6 : tie.Need-returns-6
 unfolding valueOk
 returns-6 c =
-    rw (c .before .before .before .before .before .before .match .keys6, sym (c .before .before .before .before .byte7 .ensures .0), sym (c .before .before .before .byte8 .ensures .0), sym (c .before .before .byte9 .ensures .0), sym (c .before .word5 .ensures .0))
-    (c .once-ok .ensures ∙ ap (λ (x : Bus). onceOk (c .before .before .before .before .byte7 .result) (c .before .before .before .byte8 .result) (c .before .before .byte9 .result) (c .before .word5 .result) (x .slot)) (c .before .before .before .before .before .bus-at3 .ensures .0))
+    rw (c .before .before .before .before .before .before .match .keys6, sym (c .before .before .before .before .before .byte7 .ensures .0), sym (c .before .before .before .before .byte8 .ensures .0), sym (c .before .before .before .byte9 .ensures .0), sym (c .before .before .word5 .ensures .0), sym (c .before .most-at2 .ensures))
+    (c .once-ok .ensures)
 
 returns-7 : tie.Need-returns-7
 unfolding valueOk
-returns-7 c =
+returns-7 c = rw (c .before .match .keys7) (c .schedule-ok .ensures)
+
+returns-8 : tie.Need-returns-8
+unfolding valueOk
+returns-8 c =
     let r = c .match .rest in
     let tag = c .before .before .args .tag in
-    simp (ne-eqb tag 1 (r .0 .0 .0 .0 .0 .1), ne-eqb tag 2 (r .0 .0 .0 .0 .1), ne-eqb tag 3 (r .0 .0 .0 .1), ne-eqb tag 4 (r .0 .0 .1), ne-eqb tag 7 (r .0 .1), ne-eqb tag 10 (r .1))
+    simp (
+      ne-eqb tag 1 (r .0 .0 .0 .0 .0 .0 .1),
+      ne-eqb tag 2 (r .0 .0 .0 .0 .0 .1),
+      ne-eqb tag 3 (r .0 .0 .0 .0 .1),
+      ne-eqb tag 4 (r .0 .0 .0 .1),
+      ne-eqb tag 7 (r .0 .0 .1),
+      ne-eqb tag 10 (r .0 .1),
+      ne-eqb tag 9 (r .1),
+    )
 
 pub value-ok-spec : {M : Type 1} → statement M
 value-ok-spec =
@@ -157,25 +163,23 @@ value-ok-spec =
     add-byte-2
     byte-requires-3
     bus-ok-requires
-    bus-at-requires
-    mul-starts-ok
+    period-at-requires
     starts-ok-requires
     word-requires
     add-word
     word-requires-2
     plain-ok-requires
-    bus-at-requires-2
     byte-requires-4
     add-byte-3
     byte-requires-5
     add-byte-4
     byte-requires-6
+    most-at-requires
     block-ok-requires
     word-requires-3
     add-word-2
     word-requires-4
     loop-ok-requires
-    bus-at-requires-3
     byte-requires-7
     add-byte-5
     byte-requires-8
@@ -183,11 +187,14 @@ value-ok-spec =
     byte-requires-9
     add-word-3
     word-requires-5
+    most-at-requires-2
     once-ok-requires
+    schedule-ok-requires
     returns
     returns-2
     returns-3
     returns-4
     returns-5
     returns-6
-    returns-7)
+    returns-7
+    returns-8)

@@ -1,7 +1,7 @@
 -- The invariant: the greatest depth so far, with what is left, is the greatest of all, and the sum so far, with what is left, the whole sum; both
 -- up to the caps.
 use Rattle.runs.specs.Nodes.{depth, deepest, visits as visited, visitsAll}
-use Rattle.image.specs.Bytes.{wordAt}
+use Rattle.bytes.specs.Bytes.{wordAt}
 use Rattle.image.specs.Nodes.{treeAt, childTrees}
 use Rattle.image.proofs.Numbers.{max-out}
 use Rattle.image.proofs.Levels.{deepest-step, deepest-none, visits-step, visits-none}

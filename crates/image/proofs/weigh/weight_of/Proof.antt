@@ -2,7 +2,8 @@
 use Rattle.runs.specs.Nodes.{treeBy, depth, visits as visited}
 use Rattle.image.specs.Nodes.{meant}
 use Rattle.image.specs.Promise.{Fine}
-use Rattle.image.proofs.Numbers.{product-fits, cap-times}
+use Rattle.schedule.proofs.Numbers.{product-fits}
+use Rattle.image.proofs.Numbers.{cap-times}
 use Rattle.image.proofs.Levels.{inside-here, few-here, fine-here, tree-here}
 use mathlib.Core.Path.{_≡_, sym, _∙_}
 use Prim.Native.Nat.{ℕ, _+_, _*_, _≤_, _<_, min}

@@ -1,0 +1,79 @@
+-- A bus of the program as owned offsets: what it stands for, and what its functions promise. Definitions only.
+use mathlib.Core.Path.{_≡_}
+use mathlib.Core.Bool.{Bool, true, false, not}
+use Prim.Native.Nat.{ℕ, _+_, _-_, _%_, _^_, _≤_, _<_}
+use Rattle.runs.specs.Bus.{Bus as RunBus}
+use Rattle.runs.specs.Slots.{Slots, first, periodOf}
+use Rattle.runs.specs.Schedules.{owning}
+use Rattle.runs.specs.Stretches.{IsRun, Begins}
+use Rattle.offsets.specs.declared.Set.{Set}
+use Rattle.offsets.specs.Sets.{value, has}
+use Rattle.bus.specs.declared.Bus.{Bus}
+
+-- whether the core owns an offset
+abbrev pub owns : Bus → ℕ → Bool
+owns b o = has (value (b .own)) o
+
+-- the bus that the program's numbers stand for
+abbrev pub busMeant : Bus → RunBus
+busMeant b = owning (b .period) (owns b)
+
+-- the offsets that the core owns are the `only` ones from `first` on
+pub record Alone (b : Bus) : Type 0 where
+  pub low : b .first < b .period
+  pub less : b .only < b .period
+  pub held : (i : ℕ) → i < b .only → owns b ((b .first + i) % b .period) ≡ true
+  pub free : (i : ℕ) → b .only ≤ i → i < b .period → owns b ((b .first + i) % b .period) ≡ false
+
+-- what the offsets that a core owns and those that it does not are to each other
+pub record Parted (own rest : Set) (P : ℕ) : Type 0 where
+  pub least : 1 ≤ P
+  pub most : P ≤ 256
+  pub own-in : value own < 2 ^ P
+  pub rest-in : value rest < 2 ^ P
+  pub apart : (o : ℕ) → o < P → has (value rest) o ≡ not (has (value own) o)
+  pub some : (o : ℕ) × (o < P) × (has (value own) o ≡ true)
+
+-- what judging has shown of them
+pub record Fit (b : Bus) : Type 0 where
+  pub least : 1 ≤ b .period
+  pub most : b .period ≤ 256
+  pub own-in : value (b .own) < 2 ^ b .period
+  pub rest-in : value (b .rest) < 2 ^ b .period
+  pub apart : (o : ℕ) → o < b .period → has (value (b .rest)) o ≡ not (has (value (b .own)) o)
+  pub longest : b .most ≡ busMeant b .most
+  -- unless the core owns every offset, a longest stretch begins at `first`; `only` is its length where no other offset is owned
+  pub begins : b .most < b .period → Begins (b .period) (owns b) (b .first)
+  pub run : b .most < b .period → IsRun (b .period) (owns b) (b .first) (b .most)
+  pub lone : 1 ≤ b .only → Alone b
+  pub some : (o : ℕ) × (o < b .period) × (has (value (b .own)) o ≡ true)
+
+-- b is the bus of equal slots v: "Core p owns offsets p × slot to (p + 1) × slot − 1."
+pub record Slotted (v : Slots) (b : Bus) : Type 0 where
+  pub period : b .period ≡ periodOf v
+  pub most : b .most ≡ v .slot
+  pub inside : (o : ℕ) → first v ≤ o → o < first v + v .slot → owns b o ≡ true
+  pub only-those : (o : ℕ) → o < b .period → owns b o ≡ true → (first v ≤ o) × (o < first v + v .slot)
+
+-- r is the number of cycles from the offset x on to the first offset of the set n, round the period; where there is none, r is the period
+pub record Ahead (P n x r : ℕ) : Type 0 where
+  pub most : r ≤ P
+  pub passed : (i : ℕ) → i < r → has n ((x + i) % P) ≡ false
+  pub found : r < P → has n ((x + r) % P) ≡ true
+
+-- r is the number of cycles back from the offset x to the first offset of the set n before it, round the period, x itself the last
+pub record Behind (P n x r : ℕ) : Type 0 where
+  pub some : 1 ≤ r
+  pub passed : (i : ℕ) → 1 ≤ i → i < r → i ≤ P → has n ((x + P - i) % P) ≡ false
+  pub found : r ≤ P → has n ((x + P - r) % P) ≡ true
+
+-- from the offset f of the set m on it is r cycles to the first offset of the set n, and from no offset of m that is below e more
+pub record Farthest (P n m e f r : ℕ) : Type 0 where
+  pub low : f < P
+  pub here : has m f ≡ true
+  pub ahead : Ahead P n f r
+  pub each : (a : ℕ) → a < e → has m a ≡ true → (k : ℕ) × (k ≤ r) × Ahead P n a k
+
+-- the set of the offsets at which a stretch begins, of those that the core owns
+abbrev pub Beginnings : ℕ → Set → Set → Type 0
+Beginnings P own s = (a : ℕ) → a < P → (has (value s) a ≡ true → Begins P (has (value own)) a) × (Begins P (has (value own)) a → has (value s) a ≡ true)

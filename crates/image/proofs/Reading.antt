@@ -1,0 +1,143 @@
+-- What a field says depends on its own bytes, and on the bus: where two images agree on these, wherever the field stands in each, the row's rules and
+-- the node are the same.
+use mathlib.Core.Path.{_≡_, refl, ap}
+use mathlib.Core.Logic.{_⊎_, ⊎-elim}
+use mathlib.Core.Bool.{Bool, true, false, _&&_}
+use mathlib.Core.List.{List}
+use lib.Dec.{eqb, leb, ltb}
+use borrow.Author.Tests.{eqb-true, eqb-false, eq-eqb}
+use native.Mathlib.Omega.{arith}
+use Prim.Native.Nat.{ℕ, zero, suc, _+_, _*_, _/_, _%_, _≤_}
+use Rattle.runs.specs.Nodes.{Node as RunNode}
+use Rattle.bytes.specs.Bytes.{byteAt, wordAt, words}
+use Rattle.bytes.proofs.Agreeing.{Agree, agree-part, agree-first, agree-here, word-here, agree-word, agree-words}
+use Rattle.schedule.specs.Said.{within, said}
+use Rattle.schedule.proofs.Numbers.{both}
+use Rattle.schedule.proofs.Writings.{agree-turns}
+use Rattle.image.specs.Fields.{choose, lengthOk, startsOk, valueOk, below, childrenOk}
+use Rattle.image.specs.Nodes.{pickNode, nodeFrom, meant}
+use Rattle.image.specs.declared.nodes.Node.{Node}
+
+-- the first m bytes are all that the row's rules read of a body of n bytes
+pub record Covers (tag n m : ℕ) : Type 0 where
+  pub whole : n ≤ m
+  pub bus : eqb tag 1 ≡ true → 3 ≤ m
+  pub plain : eqb tag 3 ≡ true → 4 ≤ m
+  pub block : eqb tag 4 ≡ true → 3 ≤ m
+  pub loop : eqb tag 7 ≡ true → 6 ≤ m
+  pub turns : eqb tag 9 ≡ true → 1 + 2 * (n / 2) ≤ m
+  pub once : eqb tag 10 ≡ true → 5 ≤ m
+
+-- and that its node does: a tag that is none of the others is read as a loop's
+abbrev pub CoversLoop : ℕ → ℕ → Type 0
+CoversLoop tag m = eqb tag 3 ≡ false → eqb tag 4 ≡ false → eqb tag 5 ≡ false → eqb tag 6 ≡ false → eqb tag 10 ≡ false → 6 ≤ m
+
+-- six bytes more are enough, whatever the tag and the length
+pub covers-more : (tag n : ℕ) → Covers tag n (6 + n)
+covers-more tag n = record {
+  whole = omega arith;
+  bus = λ is. omega arith;
+  plain = λ is. omega arith;
+  block = λ is. omega arith;
+  loop = λ is. omega arith;
+  turns = λ is. omega arith;
+  once = λ is. omega arith;
+}
+
+-- the body itself is enough, where its length is in the tag's row
+module _ (tag n : ℕ) (len : lengthOk tag n ≡ true) where
+  at-tag : (t : ℕ) → eqb tag t ≡ true → lengthOk t n ≡ true
+  at-tag t is = rw (eqb-true tag t is) at len
+
+  pub covers-row : Covers tag n n
+  unfolding lengthOk
+  covers-row = record {
+    whole = omega arith;
+    bus = λ is. omega (arith, eqb-true n 3 (at-tag 1 is));
+    plain = λ is. omega (arith, eqb-true n 4 (at-tag 3 is));
+    block = λ is. omega (arith, eqb-true n 3 (at-tag 4 is));
+    loop = λ is. omega (arith, eqb-true n 6 (at-tag 7 is));
+    turns = λ is. omega (arith, eqb-true (n % 2) 1 (both (within 3 65 n) (eqb (n % 2) 1) (at-tag 9 is) .1));
+    once = λ is. omega (arith, eqb-true n 5 (at-tag 10 is));
+  }
+
+  pub covers-node : (tag ≡ 10) ⊎ ((3 ≤ tag) × (tag ≤ 7)) → CoversLoop tag n
+  covers-node node n3 n4 n5 n6 n10 =
+      ⊎-elim (λ is. absurd (eqb-false tag 10 n10 is))
+      (λ (lo, hi). covers-row .loop (eq-eqb tag 7 (omega (arith, eqb-false tag 3 n3, eqb-false tag 4 n4, eqb-false tag 5 n5, eqb-false tag 6 n6)))) node
+
+choose-same : (t : Bool) (a b c d : Bool) → (t ≡ true → a ≡ c) → (t ≡ false → b ≡ d) → choose t a b ≡ choose t c d
+choose-same true a b c d f g = f refl
+choose-same false a b c d f g = g refl
+
+pick-both : (P : Node → Node → Type 0) (t : Bool) (a b c d : Node) → (t ≡ true → P a c) → (t ≡ false → P b d) → P (pickNode t a b) (pickNode t c d)
+pick-both P true a b c d f g = f refl
+pick-both P false a b c d f g = g refl
+
+module _ (s e : List ℕ) where
+  agree-starts : (p q n least period : ℕ) → Agree s e p q n → startsOk e q n least period ≡ startsOk s p n least period
+  unfolding startsOk
+  agree-starts p q zero least period h = refl
+  agree-starts p q (suc n) least period h =
+      rw (agree-here s e p q (suc n) h (omega arith))
+      (ap (λ (t : Bool). leb least (byteAt s p) && (ltb (byteAt s p) period && t))
+      (agree-starts (p + 1) (q + 1) n (byteAt s p + 1) period (agree-part s e p q (suc n) 1 n h (omega arith))))
+
+  agree-below : (p q n index : ℕ) → Agree s e p q (2 * n) → below e q n index ≡ below s p n index
+  unfolding below
+  agree-below p q zero index h = refl
+  agree-below p q (suc n) index h =
+      rw (word-here s e p q (2 * suc n) h (omega arith))
+      (ap (λ (t : Bool). ltb (wordAt s p + 2) index && t)
+      (agree-below (p + 2) (q + 2) n index (agree-part s e p q (2 * suc n) 2 (2 * n) h (omega arith))))
+
+  -- one field: its body of n bytes stands at p in s and at q in e, and they agree on all that the tag's row reads
+  module _ (tag p q n m : ℕ) (c : Covers tag n m) (h : Agree s e p q m) where
+    -- the buses have the same period and longest access
+    pub agree-value : said e .period ≡ said s .period → said e .most ≡ said s .most → valueOk e tag q n ≡ valueOk s tag p n
+    unfolding valueOk
+    agree-value period most =
+        choose-same (eqb tag 1) _ _ _ _
+        (λ is. let l = c .bus is in rw (agree-here s e p q m h (omega arith), h 1 (omega arith), h 2 (omega arith)))
+        (λ n1. choose-same (eqb tag 2) _ _ _ _
+        (λ is. rw period (agree-starts p q n 0 (said s .period) (agree-first s e p q m n h (c .whole))))
+        (λ n2. choose-same (eqb tag 3) _ _ _ _
+        (λ is. let l = c .plain is in rw (word-here s e p q m h (omega arith), agree-word s e p q m 2 h (omega arith)))
+        (λ n3. choose-same (eqb tag 4) _ _ _ _
+        (λ is. let l = c .block is in rw (most, agree-here s e p q m h (omega arith), h 1 (omega arith), h 2 (omega arith)))
+        (λ n4. choose-same (eqb tag 7) _ _ _ _
+        (λ is. let l = c .loop is in rw (word-here s e p q m h (omega arith), agree-word s e p q m 2 h (omega arith)))
+        (λ n7. choose-same (eqb tag 10) _ _ _ _
+        (λ is. let l = c .once is in rw (most, agree-here s e p q m h (omega arith), h 1 (omega arith), h 2 (omega arith), agree-word s e p q m 3 h (omega arith)))
+        (λ n10. choose-same (eqb tag 9) _ _ _ _
+        (λ is. let l = c .turns is in rw (agree-here s e p q m h (omega arith), agree-turns s e (p + 1) (q + 1) (n / 2) (agree-part s e p q m 1 (2 * (n / 2)) h (omega arith))))
+        (λ n9. refl)))))))
+
+    pub agree-children : (index : ℕ) → childrenOk e tag q n index ≡ childrenOk s tag p n index
+    unfolding childrenOk
+    agree-children index =
+        choose-same (within 5 6 tag) _ _ _ _
+        (λ is. agree-below p q (n / 2) index (agree-first s e p q m (2 * (n / 2)) h (omega (arith, c .whole))))
+        (λ n5. choose-same (eqb tag 7) _ _ _ _
+        (λ is. let l = c .loop is in agree-below (p + 4) (q + 4) 1 index (agree-part s e p q m 4 2 h (omega arith)))
+        (λ n7. refl))
+
+    named : words e q (n / 2) ≡ words s p (n / 2)
+    named = agree-words s e p q (n / 2) (agree-first s e p q m (2 * (n / 2)) h (omega (arith, c .whole)))
+
+    pub agree-node : CoversLoop tag m → meant e (nodeFrom e tag q n) ≡ meant s (nodeFrom s tag p n)
+    unfolding nodeFrom meant
+    agree-node last =
+        pick-both (λ x y. meant e x ≡ meant s y) (eqb tag 3) _ _ _ _
+        (λ is. let l = c .plain is in rw (word-here s e p q m h (omega arith), agree-word s e p q m 2 h (omega arith)))
+        (λ n3. pick-both (λ x y. meant e x ≡ meant s y) (eqb tag 4) _ _ _ _
+        (λ is. let l = c .block is in rw (agree-here s e p q m h (omega arith), h 1 (omega arith), h 2 (omega arith)))
+        (λ n4. pick-both (λ x y. meant e x ≡ meant s y) (eqb tag 5) _ _ _ _
+        (λ is. ap RunNode.sequence named)
+        (λ n5. pick-both (λ x y. meant e x ≡ meant s y) (eqb tag 6) _ _ _ _
+        (λ is. ap RunNode.branch named)
+        (λ n6. pick-both (λ x y. meant e x ≡ meant s y) (eqb tag 10) _ _ _ _
+        (λ is. let l = c .once is in rw (agree-here s e p q m h (omega arith), h 1 (omega arith), h 2 (omega arith), agree-word s e p q m 3 h (omega arith)))
+        (λ n10.
+        let l = last n3 n4 n5 n6 n10 in
+        rw (word-here s e p q m h (omega arith), agree-word s e p q m 2 h (omega arith), agree-word s e p q m 4 h (omega arith)))))))

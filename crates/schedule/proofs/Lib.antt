@@ -1,0 +1,5 @@
+pub mod Numbers
+pub mod Pairs
+pub mod Sayings
+pub mod Writings
+mod Dividing

@@ -1,0 +1,2 @@
+mod Nows
+pub mod EveryNow

@@ -1,0 +1,4 @@
+mod Reaching
+mod Coming
+mod Pending
+mod Everyone

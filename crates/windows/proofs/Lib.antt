@@ -1,0 +1,4 @@
+pub mod Tops
+mod Round
+pub mod Passes
+pub mod Parted
