@@ -13,7 +13,8 @@ use Rattle.offsets.specs.Sets.{value, has, turnedBy, Lowest}
 use Rattle.offsets.proofs.Members.{has-and}
 use Rattle.offsets.proofs.Turns.{in-turned, from-turned}
 use Rattle.bus.specs.declared.Bus.{Bus}
-use Rattle.bus.specs.Owning.{Parted, Fit, Ahead, Beginnings}
+use Rattle.bus.specs.Aheads.{Ahead}
+use Rattle.bus.specs.Owning.{Parted, Fit, Beginnings}
 use Rattle.bus.proofs.Turned.{wrapped, false-of, true-of}
 
 module _ (P n x k : ℕ) (lt : x < P) (most : P ≤ 256) (low : Lowest n x (x + 256) k) where

@@ -8,7 +8,7 @@ use Prim.Native.Nat.{ℕ, _+_, _-_, _%_, _^_, _≤_, _<_}
 use Rattle.runs.proofs.Cases.{split}
 use Rattle.offsets.specs.Sets.{has, Sized}
 use Rattle.offsets.proofs.Members.{has-above, has-lt, has-mod}
-use Rattle.bus.specs.Owning.{Behind}
+use Rattle.bus.specs.Aheads.{Behind}
 
 module _ (P n x : ℕ) (lt : x < P) (in-period : n < 2 ^ P) where
   -- i cycles back, within the period and round it

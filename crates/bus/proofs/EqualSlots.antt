@@ -1,13 +1,15 @@
 -- The bus of equal slots as owned offsets: one stretch, and the same bus as by Equation 7.
 use mathlib.Core.Path.{_≡_, refl, sym, _∙_, ap, subst}
 use mathlib.Core.Bool.{Bool, true, false, not}
+use mathlib.Core.List.{List}
 use native.Mathlib.Nat.{mod-eq-of-lt, mod-lt, add-mod-right, mul-le-mul-right, not-suc-le-zero, lt-of-lt-of-le}
 use native.Mathlib.Omega.{arith}
+use lib.ListN.{length, getD}
 use lib.Pow.{pow-pos, pow-mono}
 use Prim.Native.Nat.{ℕ, _+_, _-_, _%_, _^_, _≤_, _<_}
 use Rattle.runs.specs.Bus.{SameBus}
 use Rattle.runs.specs.Slots.{Slots, first, periodOf, equal, Sound}
-use Rattle.runs.specs.Stretches.{Begins}
+use Rattle.runs.specs.Stretches.{IsRun, Begins, NextStretch}
 use Rattle.runs.proofs.Cases.{split, either}
 use Rattle.runs.proofs.SlotsLaws.{slot-in}
 use Rattle.runs.proofs.OwningSame.{owning-same}
@@ -17,6 +19,7 @@ use Rattle.offsets.specs.Sets.{value, has, turnedBy}
 use Rattle.offsets.proofs.Members.{has-lt, has-ones}
 use Rattle.offsets.proofs.Turns.{in-turned, from-turned, turned-lt}
 use Rattle.bus.specs.declared.Bus.{Bus}
+use Rattle.bus.specs.Listed.{after, Listed}
 use Rattle.bus.specs.Owning.{owns, busMeant, Fit, Slotted}
 use Rattle.bus.proofs.Turned.{wrapped}
 
@@ -58,7 +61,8 @@ false-of t h = either t (λ e. no-way (h e)) (λ e. e)
 
 module _ (v : Slots) (ok : Sound v) (two : 2 ≤ v .cores) (short : periodOf v ≤ 256) (mine rest : Set)
     (em : value mine ≡ turnedBy (periodOf v) (first v) (2 ^ v .slot - 1))
-    (er : value rest ≡ turnedBy (periodOf v) (first v + v .slot) (2 ^ (periodOf v - v .slot) - 1)) where
+    (er : value rest ≡ turnedBy (periodOf v) (first v + v .slot) (2 ^ (periodOf v - v .slot) - 1)) (bs ls : List ℕ) (bs-long : length bs ≡ 16) (ls-long : length ls ≡ 16)
+    (at-begin : getD bs 0 0 ≡ first v) (of-length : getD ls 0 0 ≡ v .slot) where
   abbrev P : ℕ
   P = periodOf v
 
@@ -66,7 +70,7 @@ module _ (v : Slots) (ok : Sound v) (two : 2 ≤ v .cores) (short : periodOf v �
   f = first v
 
   abbrev pub made : Bus
-  made = record { period = P; most = v .slot; own = mine; rest = rest; first = f; only = v .slot }
+  made = record { period = P; most = v .slot; own = mine; rest = rest; first = f; only = v .slot; longest = 0; stretches = record { count = 1; begins = bs; lengths = ls } }
 
   in-period : f + v .slot ≤ P
   in-period = slot-in v ok
@@ -137,6 +141,31 @@ module _ (v : Slots) (ok : Sound v) (two : 2 ≤ v .cores) (short : periodOf v �
         ∙ after-it (P - 1) (omega (arith, two-in, ok .slot-pos)) (omega (arith, pos));
   }
 
+  run : IsRun P (owns made) f (v .slot)
+  run = record { owned = at-first; ends = after-it (v .slot) (omega arith) (omega (arith, two-in, ok .slot-pos)) }
+
+  -- the slot is the only stretch, and the next is the same a period on
+  round : NextStretch P (owns made) f (v .slot) (P - v .slot) f
+  round =
+      let z : f + (v .slot + (P - v .slot)) ≡ f + P = omega (arith, in-period) in
+      record {
+        begins = begins;
+        run = run;
+        free = λ i l. after-it (v .slot + i) (omega arith) (omega arith);
+        place = sym (ap (λ (n : ℕ). n % P) z ∙ add-mod-right f P ∙ mod-eq-of-lt (begins .low));
+        next = begins .here;
+        fits = omega (arith, in-period);
+      }
+
+  listed : Listed P (owns made) (made .stretches)
+  unfolding after
+  listed = record {
+    begins-long = bs-long;
+    lengths-long = ls-long;
+    few = omega arith;
+    next = λ i l. let z : i ≡ 0 = omega arith in rw (z, at-begin, of-length) (P - v .slot, round);
+  }
+
   pub fit : Fit made
   fit = record {
     least = pos;
@@ -146,7 +175,9 @@ module _ (v : Slots) (ok : Sound v) (two : 2 ≤ v .cores) (short : periodOf v �
     apart = apart;
     longest = sym (slotted-bus v ok two made slotted .most ∙ most-is);
     begins = λ l. begins;
-    run = λ l. record { owned = at-first; ends = after-it (v .slot) (omega arith) (omega (arith, two-in, ok .slot-pos)) };
+    run = λ l. run;
+    nth = λ l. (omega arith, at-begin, of-length);
+    listed = λ l. listed;
     lone = λ l. record { low = begins .low; less = omega (arith, two-in, ok .slot-pos); held = at-first; free = after-it };
     some = (f, begins .low, begins .here);
   }

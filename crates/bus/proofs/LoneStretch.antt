@@ -7,7 +7,8 @@ use Prim.Native.Nat.{ℕ, _+_, _-_, _%_, _≤_, _<_}
 use Rattle.runs.specs.Stretches.{Stretched}
 use Rattle.offsets.specs.Sets.{value}
 use Rattle.bus.specs.declared.Bus.{Bus}
-use Rattle.bus.specs.Owning.{owns, Alone, Ahead}
+use Rattle.bus.specs.Aheads.{Ahead}
+use Rattle.bus.specs.Owning.{owns, Alone}
 
 module _ (b : Bus) (x : Alone b) (some : 1 ≤ b .only) where
   abbrev P : ℕ

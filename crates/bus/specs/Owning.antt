@@ -9,6 +9,7 @@ use Rattle.runs.specs.Stretches.{IsRun, Begins}
 use Rattle.offsets.specs.declared.Set.{Set}
 use Rattle.offsets.specs.Sets.{value, has}
 use Rattle.bus.specs.declared.Bus.{Bus}
+use Rattle.bus.specs.Listed.{Nth, Listed}
 
 -- whether the core owns an offset
 abbrev pub owns : Bus → ℕ → Bool
@@ -42,9 +43,11 @@ pub record Fit (b : Bus) : Type 0 where
   pub rest-in : value (b .rest) < 2 ^ b .period
   pub apart : (o : ℕ) → o < b .period → has (value (b .rest)) o ≡ not (has (value (b .own)) o)
   pub longest : b .most ≡ busMeant b .most
-  -- unless the core owns every offset, a longest stretch begins at `first`; `only` is its length where no other offset is owned
+  -- unless the core owns every offset, its stretches are listed, and a longest begins at `first`; `only` is its length where no other offset is owned
   pub begins : b .most < b .period → Begins (b .period) (owns b) (b .first)
   pub run : b .most < b .period → IsRun (b .period) (owns b) (b .first) (b .most)
+  pub nth : b .most < b .period → Nth (b .stretches) (b .longest) (b .first) (b .most)
+  pub listed : b .most < b .period → Listed (b .period) (owns b) (b .stretches)
   pub lone : 1 ≤ b .only → Alone b
   pub some : (o : ℕ) × (o < b .period) × (has (value (b .own)) o ≡ true)
 
@@ -54,25 +57,6 @@ pub record Slotted (v : Slots) (b : Bus) : Type 0 where
   pub most : b .most ≡ v .slot
   pub inside : (o : ℕ) → first v ≤ o → o < first v + v .slot → owns b o ≡ true
   pub only-those : (o : ℕ) → o < b .period → owns b o ≡ true → (first v ≤ o) × (o < first v + v .slot)
-
--- r is the number of cycles from the offset x on to the first offset of the set n, round the period; where there is none, r is the period
-pub record Ahead (P n x r : ℕ) : Type 0 where
-  pub most : r ≤ P
-  pub passed : (i : ℕ) → i < r → has n ((x + i) % P) ≡ false
-  pub found : r < P → has n ((x + r) % P) ≡ true
-
--- r is the number of cycles back from the offset x to the first offset of the set n before it, round the period, x itself the last
-pub record Behind (P n x r : ℕ) : Type 0 where
-  pub some : 1 ≤ r
-  pub passed : (i : ℕ) → 1 ≤ i → i < r → i ≤ P → has n ((x + P - i) % P) ≡ false
-  pub found : r ≤ P → has n ((x + P - r) % P) ≡ true
-
--- from the offset f of the set m on it is r cycles to the first offset of the set n, and from no offset of m that is below e more
-pub record Farthest (P n m e f r : ℕ) : Type 0 where
-  pub low : f < P
-  pub here : has m f ≡ true
-  pub ahead : Ahead P n f r
-  pub each : (a : ℕ) → a < e → has m a ≡ true → (k : ℕ) × (k ≤ r) × Ahead P n a k
 
 -- the set of the offsets at which a stretch begins, of those that the core owns
 abbrev pub Beginnings : ℕ → Set → Set → Type 0

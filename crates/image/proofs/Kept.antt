@@ -16,6 +16,7 @@ use Rattle.image.specs.Conditions.{tagAt, lengthAt, bodyAt, GoodField}
 use Rattle.image.specs.Promise.{Starts, Durations, Fine}
 use Rattle.runs.proofs.Cases.{split}
 use Rattle.schedule.proofs.Sayings.{ranges-kept, schedule-kept}
+use Rattle.schedule.proofs.Pairs.{turns-length}
 use Rattle.schedule.proofs.Numbers.{eq-or-ne, both, is-within}
 use Rattle.image.proofs.Lists.{names-below, start-range, starts-ascend}
 
@@ -146,13 +147,13 @@ module _ (s : List ℕ) where
   unfolding valueOk
   equal-fine e v = slots e (ranges-kept _ v)
 
-  turns-fine : byteAt s 0 ≡ 9 → valueOk s 9 3 (wordAt s 1) ≡ true → Ranged s
+  turns-fine : wordAt s 1 ≤ 65 → byteAt s 0 ≡ 9 → valueOk s 9 3 (wordAt s 1) ≡ true → Ranged s
   unfolding valueOk
-  turns-fine e v = turns e (schedule-kept _ v)
+  turns-fine l e v = turns e (schedule-kept _ (omega (arith, turns-length s 4 (wordAt s 1 / 2))) v)
 
   pub first-fine : GoodField s 0 → Ranged s
   unfolding fieldAt
-  first-fine g = first-by (λ t. byteAt s 0 ≡ t → valueOk s t 3 (wordAt s 1) ≡ true → Ranged s) (byteAt s 0) (g .tag) equal-fine turns-fine refl (g .value)
+  first-fine g = first-by (λ t. byteAt s 0 ≡ t → valueOk s t 3 (wordAt s 1) ≡ true → Ranged s) (byteAt s 0) (g .tag) equal-fine (turns-fine (first-most s g)) refl (g .value)
 
 -- a field with tag 1 or 9 is the first
 pub later-field : (index tag : ℕ) → tagOk index tag ≡ true → ¬ (tag ≡ 1) → ¬ (tag ≡ 9) → 1 ≤ index

@@ -18,12 +18,14 @@ use Rattle.offsets.specs.Sets.{value, has}
 use Rattle.offsets.proofs.Members.{has-none, has-above, has-ones, has-or}
 use Rattle.offsets.proofs.Raises.{in-up, from-up}
 use Rattle.bus.specs.declared.Bus.{Bus}
+use Rattle.bus.specs.Listed.{begun}
 use Rattle.bus.specs.Owning.{busMeant, owns as owns-of}
 use Rattle.bytes.specs.Bytes.{byteAt, wordAt}
 use Rattle.schedule.specs.Said.{turnsAt, scheduleAt, Scheduled}
 use Rattle.schedule.specs.Inner.{Divides}
 use Rattle.schedule.specs.declared.Divided.{Divided}
 use Rattle.schedule.proofs.Sayings.{named-owns}
+use Rattle.schedule.proofs.Few.{begun-same, few-begun}
 use Rattle.schedule.proofs.Pairs.{turns-step, total-step, total-none}
 
 -- ---- len offsets from `at` on
@@ -177,6 +179,13 @@ module _ (s : List ℕ) (ok : Scheduled (scheduleAt s)) (r : Divided) (i : ℕ) 
   whole : r .period ≡ total (scheduleAt s .turns)
   whole = omega (arith, h .sum, total-none s 4 (pairs s) i done)
 
+  few : begun (r .period) (has (value (r .own))) (r .period) ≤ 16
+  few =
+      let own = owns (scheduleAt s .core) (scheduleAt s .turns) in
+      let (o, l, e) = named-owns (scheduleAt s .core) (scheduleAt s .turns) (ok .turns) (ok .named) in
+      omega (arith, begun-same (r .period) (has (value (r .own))) own (h .own-is) (r .period) (omega arith),
+      subst (λ (P : ℕ). begun P own P ≤ 16) (sym whole) (few-begun (scheduleAt s .core) (scheduleAt s .turns) (omega (arith, l)) (ok .few)))
+
   pub divides : Divides s r
   divides =
       let (o, l, e) = named-owns (scheduleAt s .core) (scheduleAt s .turns) (ok .turns) (ok .named) in
@@ -190,6 +199,7 @@ module _ (s : List ℕ) (ok : Scheduled (scheduleAt s)) (r : Divided) (i : ℕ) 
               apart = λ o l. rw (h .own-is o l) (h .rest-is o l);
               some = (o, omega (arith, whole, l), h .own-is o (omega (arith, whole, l)) ∙ e);
             };
+        few = few;
         period = whole;
         own = h .own-is;
       }

@@ -2,14 +2,21 @@
 use mathlib.Core.Path.{_≡_, refl, ap}
 use mathlib.Core.Bool.{Bool, true, false, _&&_, _||_}
 use mathlib.Core.List.{List, [], _∷_}
-use Prim.Native.Nat.{ℕ, suc, _+_, _-_, _*_, _≤_, _<_}
+use Prim.Native.Nat.{ℕ, zero, suc, _+_, _-_, _*_, _≤_, _<_}
 use native.Mathlib.Nat.{add-zero, zero-add}
 use native.Mathlib.Omega.{arith}
 use lib.Dec.{leb}
+use lib.ListN.{length}
 use borrow.Author.Tests.{le-leb, lt-leb, eq-eqb, ne-eqb}
 use Rattle.runs.specs.Schedules.{Turn, Schedule, total}
 use Rattle.bytes.specs.Bytes.{byteAt}
 use Rattle.schedule.specs.Said.{within, turnsAt, turnsOk, named, scheduleOk}
+
+-- as many as are read
+pub turns-length : (s : List ℕ) (p n : ℕ) → length (turnsAt s p n) ≡ n
+unfolding turnsAt
+turns-length s p zero = refl
+turns-length s p (suc n) = ap suc (turns-length s (p + 2) n)
 
 module _ (s : List ℕ) (p n i : ℕ) where
   -- pair i, and those after it

@@ -6,6 +6,7 @@ use mathlib.Core.List.{List, [], _∷_}
 use Prim.Native.Nat.{ℕ, _+_, _-_, _*_, _%_, _≤_, _<_}
 use native.Mathlib.Omega.{arith}
 use lib.Dec.{leb, ltb}
+use lib.ListN.{length}
 use borrow.Author.Tests.{ltb-true, leb-true, eq-eqb, ne-eqb, le-leb, lt-ltb, le-ltb}
 use Rattle.runs.specs.Bus.{Bus, First, Lawful, SameBus}
 use Rattle.runs.specs.Slots.{equation7, equal}
@@ -110,12 +111,12 @@ unfolding named Named
 named-kept c [] e = absurd (let z : _≡_ {A = ℕ} 0 1 = cc in omega arith)
 named-kept c (x ∷ xs) e = ⊎-elim (λ q. inl q) (λ q. inr (named-kept c xs (rw (ne-eqb (x .core) c q) at e))) (eq-or-ne (x .core) c)
 
-pub schedule-kept : (v : Schedule) → scheduleOk v ≡ true → Scheduled v
+pub schedule-kept : (v : Schedule) → length (v .turns) ≤ 32 → scheduleOk v ≡ true → Scheduled v
 unfolding scheduleOk
-schedule-kept v e =
+schedule-kept v few e =
     let p = both (turnsOk (v .turns)) (leb (total (v .turns)) 256 && named (v .core) (v .turns)) e in
     let q = both (leb (total (v .turns)) 256) (named (v .core) (v .turns)) (p .1) in
-    record { turns = turns-kept (v .turns) (p .0); period-most = leb-true _ _ (q .0); named = named-kept (v .core) (v .turns) (q .1) }
+    record { turns = turns-kept (v .turns) (p .0); few = few; period-most = leb-true _ _ (q .0); named = named-kept (v .core) (v .turns) (q .1) }
 
 -- ---- an owned offset
 

@@ -6,6 +6,7 @@ use mathlib.Core.Bool.{Bool, true, false, cond, _&&_, _||_}
 use mathlib.Core.List.{List, [], _∷_}
 use Prim.Native.Nat.{ℕ, zero, suc, _+_, _*_, _/_, _≤_}
 use lib.Dec.{eqb, leb, ltb}
+use lib.ListN.{length}
 use Rattle.runs.specs.Bus.{Bus}
 use Rattle.runs.specs.Slots.{Slots, equal}
 use Rattle.runs.specs.Schedules.{Turn, Schedule, total, unequal}
@@ -66,6 +67,7 @@ Named c (x ∷ xs) = (x .core ≡ c) ⊎ Named c xs
 
 pub record Scheduled (v : Schedule) : Type 0 where
   pub turns : Turns (v .turns)
+  pub few : length (v .turns) ≤ 32
   pub period-most : total (v .turns) ≤ 256
   pub named : Named (v .core) (v .turns)
 

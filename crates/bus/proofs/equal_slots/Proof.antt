@@ -1,5 +1,5 @@
 -- The slot's offsets, and the others, turned to where they are: the bus of EqualSlots.
-use mathlib.Core.Path.{sym, _∙_, ap, subst}
+use mathlib.Core.Path.{refl, sym, _∙_, ap, subst}
 use native.Mathlib.Omega.{arith}
 use Prim.Native.Nat.{ℕ, _+_, _-_, _*_, _^_, _<_}
 use Rattle.offsets.specs.Sets.{turnedBy}
@@ -49,14 +49,24 @@ turn-requires-2 c κs =
     let w = within v (s .pre) in
     (omega (arith, w, s .pre .slot-least), s .pre .period-most, subst (λ (n : ℕ). n < 2 ^ (v .cores * v .slot)) (sym (c .before .below2 .ensures)) (ones-in (v .cores * v .slot - v .slot) (v .cores * v .slot) (omega arith)))
 
+cast-t12 : tie.Need-cast-t12
+cast-t12 c =
+    let s = c .before .before .before .before .before .before .before .before in
+    omega (arith, within (s .args .v) (s .pre), s .pre .period-most, s .pre .slot-least)
+
+cast-t14 : tie.Need-cast-t14
+cast-t14 c = omega (arith, c .before .before .before .before .before .before .before .before .before .pre .slot-most)
+
 returns : tie.Need-returns
 returns c =
-    let s = c .before .before .before .before .before .before .before .before in
+    let s = c .before .before .before .before .before .before .before .before .before in
     let v = s .args .v in
     let ok = slots-sound v (s .pre) in
-    let own = c .before .before .before .before .turn .ensures ∙ ap (λ (n : ℕ). turnedBy (v .cores * v .slot) (v .core * v .slot) n) (c .before .before .before .before .before .below .ensures) in
-    let rest = c .turn2 .ensures ∙ ap (λ (n : ℕ). turnedBy (v .cores * v .slot) (v .core * v .slot + v .slot) n) (c .before .before .below2 .ensures) in
-    (fit (slotsOf v) ok (s .pre .cores-least) (s .pre .period-most) _ _ own rest, slotted (slotsOf v) ok (s .pre .cores-least) (s .pre .period-most) _ _ own rest)
+    let own = c .before .before .before .before .before .turn .ensures ∙ ap (λ (n : ℕ). turnedBy (v .cores * v .slot) (v .core * v .slot) n) (c .before .before .before .before .before .before .below .ensures) in
+    let rest = c .before .turn2 .ensures ∙ ap (λ (n : ℕ). turnedBy (v .cores * v .slot) (v .core * v .slot + v .slot) n) (c .before .before .before .below2 .ensures) in (
+      fit (slotsOf v) ok (s .pre .cores-least) (s .pre .period-most) _ _ own rest _ _ refl refl refl refl,
+      slotted (slotsOf v) ok (s .pre .cores-least) (s .pre .period-most) _ _ own rest _ _ refl refl refl refl,
+    )
 
 pub equal-slots-spec : {M : Type 1} → statement M
 equal-slots-spec =
@@ -70,4 +80,6 @@ equal-slots-spec =
     below-requires-2
     add-turn
     turn-requires-2
+    cast-t12
+    cast-t14
     returns)

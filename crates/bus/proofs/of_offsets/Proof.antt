@@ -1,60 +1,65 @@
 -- Every offset, several stretches or one: the bus of OfOffsets.
-use mathlib.Core.Path.{refl}
+use mathlib.Core.Path.{_≡_, refl, sym, _∙_, ap}
+use mathlib.Core.Logic.{⊎-elim}
 use native.Mathlib.Omega.{arith}
-use Rattle.bus.proofs.OfOffsets.{fit-whole, fit-many, fit-lone}
+use Prim.Native.Nat.{ℕ, _≤_}
+use Rattle.bus.proofs.OfOffsets.{begun-of, fit-whole, fit-many, fit-lone}
 use borrow.Author.Needs.{needs}
 use Rattle.bus.proofs.of_offsets.Statement.{statement}
 use Rattle.bus.proofs.of_offsets.Tie as tie
 
 entered-requires : tie.Need-entered-requires
-entered-requires c κs = search needs
+entered-requires c κs = c .pre .0
 
 lowest-requires : tie.Need-lowest-requires
 lowest-requires c κs = search needs
 
+listed-requires : tie.Need-listed-requires
+listed-requires c κs =
+    let s = c .before .before in
+    let begins = c .before .entered in
+    begun-of (s .pre .0) (begins .result) (begins .ensures) (c .lowest .result) (c .lowest .ensures) (s .pre .1)
+
 returns : tie.Need-returns
 returns c =
-    let s : tie.Start = c .before .before .before in
-    let begins = c .before .before .entered in
-    let low = c .before .lowest in
-    (fit-whole (s .pre) (begins .result) (begins .ensures) (low .result) (low .ensures) (omega (arith, c .if1 .taken)), refl, refl)
+    let s = c .before .before .before .before in
+    let begins = c .before .before .before .entered in
+    let low = c .before .before .lowest in
+    let list = c .before .listed in
+    (fit-whole (s .pre .0) (begins .result) (begins .ensures) (low .result) (low .ensures) (list .result) (list .ensures) (c .if1 .taken), refl, refl)
 
 longest-requires : tie.Need-longest-requires
-longest-requires c κs = search needs
+longest-requires c κs =
+    let list = c .before .listed .ensures in
+    (omega (arith, c .if1 .left), list .few, list .lengths-long)
 
-ahead-requires : tie.Need-ahead-requires
-ahead-requires c κs = search needs
+element-copy-out-most : tie.Need-element-copy-out-most
+element-copy-out-most c =
+    let list = c .before .before .listed .ensures in
+    omega (arith, c .longest .ensures .below, list .few, list .lengths-long)
 
-add-lowest : tie.Need-add-lowest
-add-lowest c = search needs
+cast-most : tie.Need-cast-most
+cast-most c = search needs
 
-lowest-requires-2 : tie.Need-lowest-requires-2
-lowest-requires-2 c κs = search needs
+element-copy-out-t17 : tie.Need-element-copy-out-t17
+element-copy-out-t17 c =
+    let list = c .before .before .before .before .listed .ensures in
+    omega (arith, c .before .before .longest .ensures .below, list .few, list .begins-long)
+
+cast-t12 : tie.Need-cast-t12
+cast-t12 c = search needs
 
 returns-2 : tie.Need-returns-2
 returns-2 c =
-    let s : tie.Start = c .before .before .before .before .before .before .before in
-    let begins = c .before .before .before .before .before .before .entered in
-    let low = c .before .before .before .before .before .lowest in
-    let first = c .before .before .before .longest in
-    let most = c .before .before .ahead in (
-      fit-many (s .pre) (begins .result) (begins .ensures) (low .result) (low .ensures) (omega (arith, c .before .before .before .before .if1 .left)) (first .result) (first .ensures) (most .result) (most .ensures),
-      refl,
-      refl,
-    )
-
-returns-3 : tie.Need-returns-3
-returns-3 c =
-    let s : tie.Start = c .before .before .before .before .before .before .before in
-    let begins = c .before .before .before .before .before .before .entered in
-    let low = c .before .before .before .before .before .lowest in
-    let first = c .before .before .before .longest in
-    let most = c .before .before .ahead in (
-      fit-lone (s .pre) (begins .result) (begins .ensures) (low .result) (low .ensures) (omega (arith, c .before .before .before .before .if1 .left)) (first .result) (first .ensures) (most .result) (most .ensures)
-          (c .before .lowest2 .result) (c .before .lowest2 .ensures) (omega (arith, c .if2 .left)),
-      refl,
-      refl,
-    )
+    let s = c .before .before .before .before .before .before .before .before in
+    let begins = c .before .before .before .before .before .before .before .entered in
+    let low = c .before .before .before .before .before .before .lowest in
+    let list = c .before .before .before .before .before .listed in
+    let far = c .before .before .before .longest in
+    ⊎-elim
+    (λ w. rw (w .1) (fit-lone (s .pre .0) (begins .result) (begins .ensures) (low .result) (low .ensures) (list .result) (list .ensures) (far .result) (far .ensures) (w .0 .taken), refl, refl))
+    (λ w. rw (w .1) (fit-many (s .pre .0) (begins .result) (begins .ensures) (low .result) (low .ensures) (list .result) (list .ensures) (far .result) (far .ensures), refl, refl))
+    (c .before .if2 .came)
 
 pub of-offsets-spec : {M : Type 1} → statement M
 of-offsets-spec =
@@ -62,10 +67,11 @@ of-offsets-spec =
     (tie.spec
     entered-requires
     lowest-requires
+    listed-requires
     returns
     longest-requires
-    ahead-requires
-    add-lowest
-    lowest-requires-2
-    returns-2
-    returns-3)
+    element-copy-out-most
+    cast-most
+    element-copy-out-t17
+    cast-t12
+    returns-2)

@@ -15,7 +15,7 @@ divide-requires c κs =
     turns-ranged (s .args .image .now) (s .pre) (sym (c .before .byte .ensures .0) ∙ c .if1 .taken)
 
 of-offsets-requires : tie.Need-of-offsets-requires
-of-offsets-requires c κs = c .divide .ensures .parted
+of-offsets-requires c κs = (c .divide .ensures .parted, c .divide .ensures .few)
 
 returns : tie.Need-returns
 returns c =
