@@ -7,11 +7,15 @@ use native.Mathlib.Omega.{arith}
 use Prim.Native.Nat.{ℕ, _+_, _-_, _%_, _≤_, _<_}
 use Rattle.runs.specs.Schedules.{ownsNext, owning}
 use Rattle.runs.proofs.Cases.{split}
+use Rattle.runs.proofs.SchedulesLaws.{next-of}
 use Rattle.runs.proofs.StretchesLaws.{wait-to, lands, lands-begin}
 use Rattle.runs.proofs.Nexts.{wait-none}
 use Rattle.offsets.specs.Sets.{has}
 use Rattle.exits.specs.Exits.{Reaches, StartsNow, Waits}
-use Rattle.exits.proofs.Rooms.{all-own}
+
+-- where every offset is owned, an access may start anywhere
+pub all-own : (P : ℕ) (own : ℕ → Bool) → 0 < P → ((o : ℕ) → o < P → own o ≡ true) → (d o : ℕ) → ownsNext P own d o ≡ true
+all-own P own pos whole d o = next-of P own d o (λ i m. whole ((o + i) % P) (mod-lt (o + i) pos))
 
 abbrev pub Accesses : (P : ℕ) (own : ℕ → Bool) (n lo hi j : ℕ) → Type 0
 Accesses P own n lo hi j = Reaches P (λ d o. owning P own .wait d o + d) n lo hi j

@@ -1,19 +1,20 @@
 -- The accesses that start at once within a stretch: their last cycles, seen from where a longest stretch begins, and where they end.
-use mathlib.Core.Path.{_≡_, sym, ap, _∙_, subst}
-use mathlib.Core.Bool.{true}
-use lib.Pow.{pow-pos}
-use native.Mathlib.Nat.{mod-lt, mod-add-mod}
+use mathlib.Core.Path.{_≡_, sym, ap, ap₂, _∙_, subst}
+use mathlib.Core.Bool.{true, _&&_}
+use lib.Pow.{pow-pos, ones-lt}
+use lib.Bits.{bitAnd, and-le-r}
+use native.Mathlib.Nat.{mod-lt, mod-add-mod, lt-of-le-of-lt}
 use native.Mathlib.Omega.{arith}
-use Prim.Native.Nat.{ℕ, _+_, _-_, _*_, _/_, _%_, _^_, _≤_, _<_}
+use Prim.Native.Nat.{ℕ, _+_, _-_, _*_, _%_, _^_, _≤_, _<_}
 use Rattle.runs.specs.Schedules.{ownsNext}
 use Rattle.runs.specs.Stretches.{Begins}
 use Rattle.runs.proofs.Cases.{split}
-use Rattle.runs.proofs.SchedulesLaws.{next-at, next-of}
+use Rattle.runs.proofs.SchedulesLaws.{next-at, next-of, and-both}
 use Rattle.runs.proofs.Nexts.{run-fits, run-holds}
 use Rattle.runs.proofs.BeginsLaws.{in-stretch}
 use Rattle.runs.proofs.Forward.{index, from-none, once-round}
 use Rattle.offsets.specs.Sets.{has, turnedBy, Raised}
-use Rattle.offsets.proofs.Members.{has-lt, has-mod, has-shr}
+use Rattle.offsets.proofs.Members.{has-lt, has-ones, has-and}
 use Rattle.offsets.proofs.Raises.{in-up, from-up}
 use Rattle.offsets.proofs.Intervals.{low-lt}
 use Rattle.bus.specs.declared.Bus.{Bus}
@@ -25,35 +26,48 @@ use Rattle.exits.proofs.Served.{Met, Among}
 
 -- ---- the last cycles, within len places from `at` on
 
--- `inside` has the offsets of the stretch, `last` those with the cycles after them, and r what is in the stretch of these, in its place
-module _ (m at len lo hi inside many last r : ℕ) (least : 1 ≤ lo) (ordered : lo ≤ hi) (fits : at + len ≤ 256) (within : inside ≡ m / 2 ^ at % 2 ^ len)
-    (durations : many ≡ hi + 1 - lo) (on : Raised inside (lo - 1) many last) (is : r ≡ (last % 2 ^ len * 2 ^ at) % 2 ^ 256) where
-  in-inside : (y : ℕ) → y < len → has inside y ≡ has m (at + y)
-  in-inside y l = ap (λ (n : ℕ). has n y) within ∙ has-mod (m / 2 ^ at) y len l ∙ has-shr m at y
+-- `mask` is these places, `inside` has the offsets of the stretch, `last` those with the cycles after them, and r what is in the stretch of these
+module _ (m at len lo hi mask inside many last r : ℕ) (least : 1 ≤ lo) (ordered : lo ≤ hi) (fits : at + len ≤ 256)
+    (places : mask ≡ ((2 ^ len - 1) * 2 ^ at) % 2 ^ 256) (within : inside ≡ bitAnd m mask) (durations : many ≡ hi + 1 - lo)
+    (on : Raised inside (lo - 1) many last) (is : r ≡ bitAnd last mask) where
+  in-mask : (o : ℕ) → at ≤ o → o < at + len → has mask o ≡ true
+  in-mask o l h =
+      let z : o - at + at ≡ o = omega arith in
+      ap (λ (n : ℕ). has n o) places
+      ∙ subst (λ (v : ℕ). has (((2 ^ len - 1) * 2 ^ at) % 2 ^ 256) v ≡ true) z (in-up (2 ^ len - 1) at (o - at) (omega arith) (has-ones len (o - at) (omega arith)))
 
-  inside-lt : (y : ℕ) → has inside y ≡ true → y < len
-  inside-lt y t = has-lt (m / 2 ^ at % 2 ^ len) len y (mod-lt (m / 2 ^ at) (pow-pos len)) (sym (ap (λ (n : ℕ). has n y) within) ∙ t)
+  from-mask : (o : ℕ) → has mask o ≡ true → (at ≤ o) × (o < at + len)
+  from-mask o t =
+      let (i, u, e) = from-up (2 ^ len - 1) at o (sym (ap (λ (n : ℕ). has n o) places) ∙ t) in
+      let l = has-lt (2 ^ len - 1) len i (ones-lt len) u in
+      (omega arith, omega arith)
 
-  from-last : (j : ℕ) → has r j ≡ true → (z : ℕ) × (z < len) × (has last z ≡ true) × (z + at ≡ j)
-  from-last j t =
-      let (z, u, e) = from-up (last % 2 ^ len) at j (sym (ap (λ (n : ℕ). has n j) is) ∙ t) in
-      let l = has-lt (last % 2 ^ len) len z (mod-lt last (pow-pos len)) u in
-      (z, l, sym (has-mod last z len l) ∙ u, e)
+  -- what is in a set and in the mask
+  in-both : (a s o : ℕ) → s ≡ bitAnd a mask → has a o ≡ true → at ≤ o → o < at + len → has s o ≡ true
+  in-both a s o e t l h = ap (λ (n : ℕ). has n o) e ∙ has-and a mask o ∙ ap₂ _&&_ t (in-mask o l h)
+
+  from-both : (a s o : ℕ) → s ≡ bitAnd a mask → has s o ≡ true → (has a o ≡ true) × (at ≤ o) × (o < at + len)
+  from-both a s o e t =
+      let (u, v) = and-both (has a o) (has mask o) (sym (has-and a mask o) ∙ sym (ap (λ (n : ℕ). has n o) e) ∙ t) in
+      let (l, h) = from-mask o v in
+      (u, l, h)
 
   pub last-in : SetOf (at + len) (LastIn m at len lo hi) r
   last-in = record {
-    within = low-lt 256 (at + len) r fits (subst (λ (n : ℕ). n < 2 ^ 256) (sym is) (mod-lt _ (pow-pos 256))) (λ o t. let (z, l, u, e) = from-last o t in omega arith);
+    within =
+        let low : mask < 2 ^ (at + len) =
+        low-lt 256 (at + len) mask fits (subst (λ (n : ℕ). n < 2 ^ 256) (sym places) (mod-lt _ (pow-pos 256))) (λ o t. from-mask o t .1) in
+        subst (λ (n : ℕ). n < 2 ^ (at + len)) (sym is) (lt-of-le-of-lt (and-le-r last mask) low);
     all = λ j (d, y, k, l, s, t, q).
-        let i = y + (lo - 1 + (d - lo)) in
-        let z : i + at ≡ j = omega arith in
-        let u : has last i ≡ true = on .all y (d - lo) (in-inside y (omega arith) ∙ t) (omega arith) (omega arith) in
-        ap (λ (n : ℕ). has n j) is
-        ∙ subst (λ (v : ℕ). has ((last % 2 ^ len * 2 ^ at) % 2 ^ 256) v ≡ true) z (in-up (last % 2 ^ len) at i (omega arith) (has-mod last i len (omega arith) ∙ u));
+        let z : at + y + (lo - 1 + (d - lo)) ≡ j = omega arith in
+        let u : has inside (at + y) ≡ true = in-both m inside (at + y) within t (omega arith) (omega arith) in
+        in-both last r j is (subst (λ (v : ℕ). has last v ≡ true) z (on .all (at + y) (d - lo) u (omega arith) (omega arith))) (omega arith) (omega arith);
     only = λ j t.
-        let (z, l, u, e) = from-last j t in
-        let (y, i, k, v, q) = on .only z u in
-        let n = inside-lt y v in
-        (lo + i, y, omega arith, omega arith, omega arith, sym (in-inside y n) ∙ v, omega arith);
+        let (u, l, h) = from-both last r j is t in
+        let (o, i, k, v, q) = on .only j u in
+        let (w, p, g) = from-both m inside o within v in
+        let z : at + (o - at) ≡ o = omega arith in
+        (lo + i, o - at, omega arith, omega arith, omega arith, ap (has m) z ∙ w, omega arith);
   }
 
 -- ---- seen from `first`, where a longest stretch begins

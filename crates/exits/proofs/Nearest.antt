@@ -1,22 +1,21 @@
 -- The nearest offset of a set before a stretch decides which durations wait for it; and their ends.
 use mathlib.Core.Path.{_≡_, sym, ap, _∙_, subst}
 use mathlib.Core.Bool.{Bool, true, false≢true}
-use native.Mathlib.Nat.{add-mod-right, mod-add-mod, mod-eq-of-lt}
 use native.Mathlib.Omega.{arith}
 use Prim.Native.Nat.{ℕ, _+_, _-_, _%_, _≤_, _<_, max, min}
-use Rattle.runs.specs.Schedules.{ownsNext}
 use Rattle.runs.specs.Stretches.{Open, NextStretch}
 use Rattle.runs.proofs.Cases.{split}
 use Rattle.runs.proofs.Nexts.{run-fits, run-holds}
 use Rattle.runs.proofs.Forward.{opens, closes, opens-past, from-past, back-past}
 use Rattle.bus.specs.declared.Bus.{Bus}
-use Rattle.bus.specs.Owning.{owns, Behind}
+use Rattle.bus.specs.Aheads.{Behind}
+use Rattle.bus.specs.Owning.{owns}
 use Rattle.offsets.specs.declared.Set.{Set}
 use Rattle.offsets.specs.Sets.{value, has}
 use Rattle.exits.specs.Exits.{BusReady, SetOf, EndsFrom, WaitsAt, Waited}
 use Rattle.exits.proofs.Ready.{hi-small}
 use Rattle.exits.proofs.SetOfs.{set-same}
-use Rattle.exits.proofs.Served.{Met}
+use Rattle.exits.proofs.Served.{Met, none-past}
 
 -- nothing is gone, and no duration is above 256
 pub waited-none : (P : ℕ) (own : ℕ → Bool) (n y k : ℕ) → 256 < k → Waited P own n y 0 k
@@ -69,24 +68,6 @@ module _ (b : Bus) (lo hi : ℕ) (s : Set) (ready : BusReady b lo hi s) (less : 
   abbrev P : ℕ
   P = b .period
 
-  abbrev f : ℕ
-  f = b .first
-
-  back : (y + P - gone) % P ≡ f
-  back =
-      let l = met .within in
-      let u : y + P - gone ≡ y + (P - gone) = omega arith in
-      let z : f + gone + (P - gone) ≡ f + P = omega arith in
-      ap (λ (v : ℕ). v % P) u ∙ ap (λ (v : ℕ). (v + (P - gone)) % P) (met .place) ∙ mod-add-mod (f + gone) P (P - gone) ∙ ap (λ (v : ℕ). v % P) z
-      ∙ add-mod-right f P ∙ mod-eq-of-lt (ready .fit .begins less .low)
-
-  -- none waits past `first`, where every access may start
-  none-past : (d w : ℕ) → d ≤ hi → Open P (owns b) d y w → w < gone
-  none-past d w l o =
-      split gone w
-      (λ m. absurd (false≢true (sym (o gone some m) ∙ ap (ownsNext P (owns b) d) back ∙ run-holds P (owns b) f (b .most) d (ready .fit .run less) (omega (arith, ready .most)))))
-      (λ m. m)
-
   pub waits-at : (k from top m : ℕ) → Waited P (owns b) (value s) y gone k → from ≡ max lo k → top ≡ min hi len → SetOf P (EndsFrom P y from top) m
       → SetOf P (WaitsAt P (owns b) (value s) lo hi y) m
   waits-at k from top m x e u =
@@ -96,10 +77,10 @@ module _ (b : Bus) (lo hi : ℕ) (s : Set) (ready : BusReady b lo hi s) (less : 
       set-same P m (EndsFrom P y from top) (WaitsAt P (owns b) (value s) lo hi y)
       (λ j (d, l, h, q).
       let (w, p, n, t, o) = x .waits d (omega arith) (omega arith) in
-      let v = none-past d w (omega arith) o in
+      let v = none-past b (ready .fit) less y len gone d w met some (omega (arith, ready .most)) o in
       (d, w, omega arith, omega arith, p, omega arith, run-holds P (owns b) y len d (met .run) (omega arith), t, o, q))
       (λ j (d, w, l, h, p, n, a, t, o, q).
-      let v = none-past d w h o in
+      let v = none-past b (ready .fit) less y len gone d w met some (omega (arith, ready .most)) o in
       let r = run-fits P (owns b) y len d (met .run) a in
       split k d
       (λ z. (d, omega arith, omega arith, q))

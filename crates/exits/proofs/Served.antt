@@ -1,12 +1,15 @@
 -- Once round the period from stretch to stretch, from a longest one on: what holds for those that have been served, and at last for all.
-use mathlib.Core.Path.{_≡_, sym, subst}
+use mathlib.Core.Path.{_≡_, sym, _∙_, ap, subst}
 use mathlib.Core.Logic.{_⊎_, inl, inr}
+use mathlib.Core.Bool.{false≢true}
 use lib.Bits.{bitOr}
 use native.Mathlib.Omega.{arith}
-use Prim.Native.Nat.{ℕ, _+_, _%_, _≤_, _<_}
-use Rattle.runs.specs.Stretches.{IsRun, Begins, NextStretch}
+use Prim.Native.Nat.{ℕ, _+_, _-_, _%_, _≤_, _<_}
+use Rattle.runs.specs.Schedules.{ownsNext}
+use Rattle.runs.specs.Stretches.{IsRun, Begins, Open, NextStretch}
 use Rattle.runs.proofs.Cases.{split}
-use Rattle.runs.proofs.Forward.{from-none, index, some-len, none-between, round, next-begins, next-place}
+use Rattle.runs.proofs.Nexts.{run-holds}
+use Rattle.runs.proofs.Forward.{from-none, back-again, index, some-len, none-between, round, next-begins, next-place}
 use Rattle.bus.specs.declared.Bus.{Bus}
 use Rattle.bus.specs.Owning.{owns, Fit}
 use Rattle.exits.specs.Exits.{SetOf}
@@ -35,6 +38,15 @@ module _ (b : Bus) (fit : Fit b) (less : b .most < b .period) where
 
   pub met-first : Met b (b .first) (b .most) 0
   met-first = record { place = sym (from-none P (owns b) (b .first) first); within = omega arith; begins = first; run = fit .run less }
+
+  -- none waits past `first`, where every access may start
+  pub none-past : (y len gone d w : ℕ) → Met b y len gone → 1 ≤ gone → d ≤ b .most → Open P (owns b) d y w → w < gone
+  none-past y len gone d w met some l o =
+      let back : (y + P - gone) % P ≡ b .first =
+      ap (λ (v : ℕ). (v + P - gone) % P) (met .place) ∙ back-again P (owns b) (b .first) first gone (met .within) in
+      split gone w
+      (λ m. absurd (false≢true (sym (o gone some m) ∙ ap (ownsNext P (owns b) d) back ∙ run-holds P (owns b) (b .first) (b .most) d (fit .run less) l)))
+      (λ m. m)
 
   -- on to the next
   module _ (x len gap y gone : ℕ) (few : gone < P) (met : Met b x len gone) (c : NextStretch P (owns b) x len gap y) where

@@ -82,13 +82,15 @@ pub fn now_all(t: &[u64], out: &mut [u64; 256], b: Bus, lo: usize, hi: usize)
 {
     let mut k = [0u64; 256];
     let mut w = [0u64; 256];
+    let mut i = b.longest;
     let mut x = b.first;
     let mut len = b.most;
     let mut gone = 0;
     while gone < b.period {
         now_in(t, &mut k, &mut w, out, b.period, x, len, lo, hi);
-        let n = bus::next_stretch(b, x, len);
+        let n = bus::next_stretch(b, i, x, len);
         gone += len + n.gap;
+        i = n.i;
         x = n.at;
         len = n.len;
     }

@@ -2,6 +2,7 @@
 use mathlib.Core.Path.{_≡_}
 use Prim.Native.Nat.{ℕ, _+_, _-_, _≤_}
 use Rattle.runs.proofs.Forward.{some-len}
+use Rattle.bus.specs.Listed.{Nth}
 use Rattle.bus.specs.Owning.{owns}
 use Rattle.offsets.specs.Sets.{value, turnedBy}
 use Rattle.exits.specs.Exits.{SetOf}
@@ -14,12 +15,13 @@ use Rattle.exits.proofs.starting.Statement.{statement}
 use Rattle.exits.proofs.starting.Tie as tie
 
 abbrev Inv-loop : tie.InvT-loop
-Inv-loop b lo hi p seen out₀ x₀ len₀ gone₀ out x len gone =
+Inv-loop b lo hi p seen out₀ i₀ x₀ len₀ gone₀ out i x len gone =
     Met b x len gone
     × ((n : ℕ) → value seen ≡ turnedBy (b .period) (b .period - b .first) n → SetOf (b .period) (Among b (LastAt b n lo hi) 0 gone) (value out))
+    × Nth (b .stretches) i x len
 
 abbrev μ-loop : tie.MeasureT-loop
-μ-loop b lo hi p seen out₀ x₀ len₀ gone₀ out x len gone = b .period - gone
+μ-loop b lo hi p seen out₀ i₀ x₀ len₀ gone₀ out i x len gone = b .period - gone
 
 sub-turn : tie.Need-sub-turn Inv-loop μ-loop
 sub-turn c = let s : tie.Start Inv-loop μ-loop = c in omega (arith, s .pre .0 .fit .begins (s .pre .1) .low)
@@ -35,14 +37,14 @@ loop-holds c =
     let s : tie.Start Inv-loop μ-loop = c .before .before in
     let a = s .args in (
       met-first (a .b) (s .pre .0 .fit) (s .pre .1),
-      λ n e. none-served (a .b) (LastAt (a .b) n (a .lo) (a .hi)) 0 0 (value (c .empty .result)) (omega arith) (c .empty .ensures),
+      (λ n e. none-served (a .b) (LastAt (a .b) n (a .lo) (a .hi)) 0 0 (value (c .empty .result)) (omega arith) (c .empty .ensures)),
+      s .pre .0 .fit .nth (s .pre .1),
     )
 
 next-stretch-requires : tie.Need-next-stretch-requires Inv-loop μ-loop
 next-stretch-requires c κs =
     let s : tie.Start Inv-loop μ-loop = c .before .before .before .before .before in
-    let met = c .before .before .loop .inv .0 in
-    (s .pre .0 .fit, met .begins, met .run)
+    (s .pre .0 .fit, s .pre .1, c .before .before .loop .inv .2)
 
 -- the next stretch is met, some cycles further on
 next : (c : tie.After-next-stretch Inv-loop μ-loop) → (
@@ -91,10 +93,11 @@ loop-again c =
     let seen = c .before .before .before .before .before .before .before .before .turn in
     let (met, h) = next (c .before .before .before) in (
       met,
-      λ m e.
+      (λ m e.
           here-served b (s .pre .0 .fit) (s .pre .1) (l .x) (l .len) (n .result .gap) (n .result .at) (l .gone) less (l .inv .0) (n .ensures .0)
           (LastAt b m (a .lo) (a .hi)) (value (l .out)) (value (now .result)) (value (c .before .join .result)) (c .before .join .ensures) (l .inv .1 m e)
-          (last-at b (s .pre .0 .fit) (s .pre .1) m (a .lo) (a .hi) (s .pre .0 .least) (value (seen .result)) (l .x) (l .len) (l .gone) (value (now .result)) e (l .inv .0) (omega (arith, met .within)) (now .ensures)),
+          (last-at b (s .pre .0 .fit) (s .pre .1) m (a .lo) (a .hi) (s .pre .0 .least) (value (seen .result)) (l .x) (l .len) (l .gone) (value (now .result)) e (l .inv .0) (omega (arith, met .within)) (now .ensures))),
+      n .ensures .2,
     )
 
 add-turn : tie.Need-add-turn Inv-loop μ-loop

@@ -2,6 +2,7 @@
 use mathlib.Core.Path.{subst}
 use Prim.Native.Nat.{ℕ, _+_, _-_, _%_, _≤_}
 use Rattle.runs.proofs.Forward.{some-len}
+use Rattle.bus.specs.Listed.{Nth}
 use Rattle.bus.specs.Owning.{owns}
 use Rattle.offsets.specs.Sets.{value}
 use Rattle.exits.specs.Exits.{SetOf, WaitsAt, Waited}
@@ -14,12 +15,13 @@ use Rattle.exits.proofs.waiting.Statement.{statement}
 use Rattle.exits.proofs.waiting.Tie as tie
 
 abbrev Inv-loop : tie.InvT-loop
-Inv-loop b lo hi s out₀ x₀ len₀ least₀ gone₀ out x len least gone =
+Inv-loop b lo hi s out₀ i₀ x₀ len₀ least₀ gone₀ out i x len least gone =
     Met b x len gone × (least ≤ 257) × Waited (b .period) (owns b) (value s) x gone least
     × SetOf (b .period) (Among b (λ i. WaitsAt (b .period) (owns b) (value s) lo hi ((b .first + i) % b .period)) 1 (gone + 1)) (value out)
+    × Nth (b .stretches) i x len
 
 abbrev μ-loop : tie.MeasureT-loop
-μ-loop b lo hi s out₀ x₀ len₀ least₀ gone₀ out x len least gone = b .period - gone
+μ-loop b lo hi s out₀ i₀ x₀ len₀ least₀ gone₀ out i x len least gone = b .period - gone
 
 empty-requires : tie.Need-empty-requires Inv-loop μ-loop
 empty-requires c κs = search needs
@@ -33,13 +35,13 @@ loop-holds c =
       omega arith,
       waited-none (b .period) (owns b) (value (a .s)) (b .first) _ (omega arith),
       none-served b (λ i. WaitsAt (b .period) (owns b) (value (a .s)) (a .lo) (a .hi) ((b .first + i) % b .period)) 1 (0 + 1) (value (c .empty .result)) (omega arith) (c .empty .ensures),
+      s .pre .0 .fit .nth (s .pre .1),
     )
 
 next-stretch-requires : tie.Need-next-stretch-requires Inv-loop μ-loop
 next-stretch-requires c κs =
     let s : tie.Start Inv-loop μ-loop = c .before .before .before .before in
-    let met = c .before .before .loop .inv .0 in
-    (s .pre .0 .fit, met .begins, met .run)
+    (s .pre .0 .fit, s .pre .1, c .before .before .loop .inv .4)
 
 -- the next stretch is met, some cycles further on
 next : (c : tie.After-next-stretch Inv-loop μ-loop) → (
@@ -116,6 +118,7 @@ loop-again c =
           (subst (λ (y : ℕ). SetOf P (WaitsAt P (owns b) (value (a .s)) (a .lo) (a .hi) y) (value (ends .result))) (met .place)
           (waits-at b (a .lo) (a .hi) (a .s) (s .pre .0) (s .pre .1) (n .result .at) (n .result .len) gone met (omega arith) (least .result) (from .result) (top .result) (value (ends .result)) wait
           (omega (arith, from .ensures)) (omega (arith, top .ensures)) (ends .ensures))),
+      n .ensures .2,
     )
 
 returns : tie.Need-returns Inv-loop μ-loop
