@@ -5,6 +5,7 @@ use lib.ListN.{length}
 use Rattle.runs.specs.Stretches.{IsRun, Begins}
 use Rattle.runs.proofs.Forward.{from-none, next-begins, next-place, round, some-len}
 use Rattle.runs.proofs.Nexts.{begun}
+use Rattle.bus.specs.Listed.{Nth}
 use Rattle.bus.specs.Owning.{owns}
 use Rattle.starting.proofs.EveryNow.{StartedUp, up-none, up-more, up-all}
 use native.Mathlib.Omega.{arith}
@@ -12,12 +13,12 @@ use Rattle.starting.proofs.now_all.Statement.{statement}
 use Rattle.starting.proofs.now_all.Tie as tie
 
 abbrev Inv-loop : tie.InvT-loop
-Inv-loop t out₀ b lo hi k₀ w₀ x₀ len₀ gone₀ out k w x len gone =
+Inv-loop t out₀ b lo hi k₀ w₀ i₀ x₀ len₀ gone₀ out k w i x len gone =
     (gone ≤ b .period) × (length out ≡ 256) × (length k ≡ 256) × (length w ≡ 256) × (x ≡ (b .first + gone) % b .period)
-    × Begins (b .period) (owns b) x × IsRun (b .period) (owns b) x len × StartedUp (b .period) (owns b) t (b .first) gone lo hi out₀ out
+    × Begins (b .period) (owns b) x × IsRun (b .period) (owns b) x len × StartedUp (b .period) (owns b) t (b .first) gone lo hi out₀ out × Nth (b .stretches) i x len
 
 abbrev μ-loop : tie.MeasureT-loop
-μ-loop t out₀ b lo hi k₀ w₀ x₀ len₀ gone₀ out k w x len gone = b .period - gone
+μ-loop t out₀ b lo hi k₀ w₀ i₀ x₀ len₀ gone₀ out k w i x len gone = b .period - gone
 
 loop-holds : tie.Need-loop-holds Inv-loop μ-loop
 loop-holds c =
@@ -32,6 +33,7 @@ loop-holds c =
       first,
       p .0 .run (p .1),
       up-none (a .b .period) (owns (a .b)) _ (a .b .first) (a .lo) (a .hi) first _,
+      p .0 .nth (p .1),
     )
 
 now-in-requires : tie.Need-now-in-requires Inv-loop μ-loop
@@ -46,8 +48,8 @@ now-in-requires c κs =
 
 next-stretch-requires : tie.Need-next-stretch-requires Inv-loop μ-loop
 next-stretch-requires c κs =
-    let v = c .before .before .before .before .before .before .loop .inv in
-    (c .before .before .before .before .before .before .before .before .pre .0, v .5, v .6)
+    let s = c .before .before .before .before .before .before .before .before in
+    (s .pre .0, s .pre .1, c .before .before .before .before .before .before .loop .inv .8)
 
 -- where a turn began, and the function
 abbrev turn : tie.After-struct-known2 Inv-loop μ-loop → tie.At-loop Inv-loop μ-loop
@@ -96,6 +98,7 @@ loop-again c =
       n .1,
       up-more (b .period) (owns b) _ (b .first) (a .lo) (a .hi) first (l .gone) (l .x) (l .len) _ _ _ _ few (l .inv .4) (n .0) _ _ _ (l .inv .7) (in' .3) (omega arith)
           (omega arith),
+      n .2,
     )
 
 returns : tie.Need-returns Inv-loop μ-loop
