@@ -1,5 +1,5 @@
 -- The longest time with which an entry comes to an offset, from so many offsets before it.
-use mathlib.Core.Path.{_≡_, sym, _∙_, ap}
+use mathlib.Core.Path.{_≡_, refl, sym, _∙_, ap}
 use mathlib.Core.Logic.{inl, inr}
 use mathlib.Core.Option.{none, some}
 use mathlib.Core.List.{List}
@@ -13,7 +13,7 @@ use Rattle.runs.proofs.TimesExact.{longest-same, longest-some, times-mean}
 use Rattle.times.specs.Arrays.{noTime, timeOf, tableOf, Fits, LongerOf, LaterOf}
 use Rattle.times.proofs.Tables.{time-some, time-inv, tableOf-at}
 use Rattle.times.proofs.Ends.{self}
-use Rattle.waiting.specs.Waiting.{Reach, Come}
+use Rattle.waiting.specs.Waiting.{Reach, Come, ComeLater}
 
 module _ (P y n : ℕ) (low : y < P) where
   -- i cycles before y, within the period and round it
@@ -59,23 +59,28 @@ back-one P y w at at' l e f =
     let b : y + P - w + (P - 1) ≡ (y + P - (w + 1)) + P = omega arith in
     f ∙ ap (λ (k : ℕ). k % P) a ∙ ap (λ (k : ℕ). (k + (P - 1)) % P) e ∙ mod-add-mod (y + P - w) P (P - 1) ∙ ap (λ (k : ℕ). k % P) b ∙ add-mod-right (y + P - (w + 1)) P
 
-pub come-more : (P : ℕ) (t : List ℕ) (y w w' at v best best' : ℕ) → 0 < P → w' ≡ w + 1 → at ≡ (y + P - w') % P → LaterOf (getD t at 0) w' v → LongerOf best v best'
-    → Come P t y w best → Come P t y w' best'
+pub come-more : (P : ℕ) (t : List ℕ) (y w w' rest at d v best best' : ℕ) → 0 < P → w' ≡ w + 1 → at ≡ (y + P - w') % P → d ≡ w' + rest → LaterOf (getD t at 0) d v
+    → LongerOf best v best' → ComeLater P t y w rest best → ComeLater P t y w' rest best'
 unfolding LongerOf LaterOf
-come-more P t y w w' at v best best' pos ew ea k f h =
+come-more P t y w w' rest at d v best best' pos ew ea ed k f h =
     let lt : at < P = omega (arith, ea, mod-lt (y + P - w') pos) in
     rw (f, k)
     (longest-same _ _ _
     (λ c. elim [
-      | inl (i, l, x) ↦ (i, omega arith, x)
-      | inr (c₀, g, x) ↦ (w', omega arith, (c₀, ap (λ (j : ℕ). getD (tableOf P t) j none) (sym ea) ∙ tableOf-at P t at lt ∙ g, x))
+      | inl (m, (i, l, x), z) ↦ (m, (i, omega arith, x), z)
+      | inr (c₀, g, x) ↦ (c₀ + w', (w', omega arith, (c₀, ap (λ (j : ℕ). getD (tableOf P t) j none) (sym ea) ∙ tableOf-at P t at lt ∙ g, refl)), omega arith)
     ])
-    (λ c (i, l, (c₀, g, x)).
+    (λ c (m, (i, l, (c₀, g, x)), z).
     split i w
-    (λ m. inl (i, m, (c₀, g, x)))
-    (λ m. let z : i ≡ w' = omega arith in
-    inr (c₀, sym (tableOf-at P t at lt) ∙ ap (λ (j : ℕ). getD (tableOf P t) j none) (ea ∙ ap (λ (i : ℕ). (y + P - i) % P) (sym z)) ∙ g, omega arith)))
-    (times-mean .is-join _ _ _ _ h (times-mean .is-later _ w' _ (self (timeOf (getD t at 0))))))
+    (λ n. inl (m, (i, n, (c₀, g, x)), z))
+    (λ n. let is : i ≡ w' = omega arith in
+    inr (c₀, sym (tableOf-at P t at lt) ∙ ap (λ (j : ℕ). getD (tableOf P t) j none) (ea ∙ ap (λ (i : ℕ). (y + P - i) % P) (sym is)) ∙ g, omega arith)))
+    (times-mean .is-join _ _ _ _ h (times-mean .is-later _ d _ (self (timeOf (getD t at 0))))))
+
+-- what has come, some cycles later
+pub come-later : (P : ℕ) (t : List ℕ) (y w rest r v : ℕ) → Come P t y w r → LaterOf r rest v → ComeLater P t y w rest v
+unfolding LaterOf
+come-later P t y w rest r v h k = rw k (times-mean .is-later _ rest _ h)
 
 -- the times that come are far below 2^64
 pub entry-small : (P : ℕ) (t : List ℕ) (o i c₀ r : ℕ) → Fits P t → 0 < P → getD (tableOf P t) (o % P) none ≡ some c₀ → r ≡ c₀ + i → r ≤ 1152921504606846976 + i

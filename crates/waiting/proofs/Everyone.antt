@@ -7,8 +7,8 @@ use mathlib.Core.Bool.{Bool, true, false, false≢true}
 use lib.ListN.{getD}
 use borrow.Author.Tests.{le-leb, lt-leb}
 use native.Mathlib.Omega.{arith}
-use Prim.Native.Nat.{ℕ, _+_, _-_, _%_, _≤_, _<_}
-use Rattle.runs.specs.Figures.{Time, later, longer}
+use Prim.Native.Nat.{ℕ, _+_, _-_, _%_, _≤_, _<_, min, max}
+use Rattle.runs.specs.Figures.{Time, longer}
 use Rattle.runs.specs.Demand3.{Longest, nothing, reached}
 use Rattle.runs.specs.Schedules.{ownsNext}
 use Rattle.runs.specs.Stretches.{IsRun, Begins, Open, NextStretch}
@@ -16,41 +16,50 @@ use Rattle.runs.proofs.Cases.{split}
 use Rattle.runs.proofs.StretchesLaws.{run-may}
 use Rattle.runs.proofs.Forward as forward
 use Rattle.runs.proofs.TimesExact.{longest-same, longest-some, times-mean}
-use Rattle.times.specs.Arrays.{noTime, timeOf, tableOf, Fits}
-use Rattle.times.proofs.Tables.{time-some}
+use Rattle.times.specs.Arrays.{timeOf, tableOf, Fits}
 use Rattle.times.proofs.Ends.{self, left-means}
-use Rattle.waiting.specs.Waiting.{Comes, Come, Pends, LeavesOf, LeftOf, LeftAll, Pended, LeftBy, Waits}
+use Rattle.waiting.specs.Waiting.{Comes, Later, ComeLater, Pends, LeavesOf, LeftOf, LeftAll, among, Shorter, WaitsOn, Pended, LeftBy}
 use Rattle.waiting.proofs.Coming.{entry-small}
+use Rattle.waiting.proofs.Pending.{among-both, among-room, among-on}
 
 -- ---- from a stretch to the next
 
+-- run and p have what waits for a stretch of len cycles that begins at x, with each duration that it has no room for: n cycles later
+abbrev pub Waiting : (P : ℕ) (own : ℕ → Bool) (t : List ℕ) (x w len n lo hi run : ℕ) (p : List ℕ) → Type 0
+Waiting P own t x w len n lo hi run p =
+    (e : ℕ) → lo ≤ e → e ≤ hi → len < e → Longest (Later n (Pends P own (tableOf P t) x w e)) (longer (timeOf run) (among p (max lo (len + 1)) (e + 1)))
+
 module _ (P : ℕ) (own : ℕ → Bool) (t : List ℕ) (x len gap y : ℕ) (c : NextStretch P own x len gap y) (w : ℕ) (fits : w + (len + gap) ≤ P) where
   -- with a duration that it has room for, those that come from so near wait
-  pends-room : (e r : ℕ) → 1 ≤ e → e ≤ len → Come P t y (gap + e - 1) r → Longest (Pends P own (tableOf P t) y (w + (len + gap)) e) (timeOf r)
-  pends-room e r pos le h =
+  pends-room : (e n : ℕ) (v : Time) → 1 ≤ e → e ≤ len → Longest (Later n (Comes P (tableOf P t) y (gap + e - 1))) v
+      → Longest (Later n (Pends P own (tableOf P t) y (w + (len + gap)) e)) v
+  pends-room e n v pos le h =
       longest-same _ _ _
-      (λ n (i, l, u). (i, omega arith, forward.opens P own x len gap y c e i pos (omega arith) (omega arith), u))
-      (λ n (i, l, o, u). (i, (let z = forward.closes P own x len gap y c e i pos le o in omega arith), u))
+      (λ k (m, (i, l, u), z). (m, (i, omega arith, forward.opens P own x len gap y c e i pos (omega arith) (omega arith), u), z))
+      (λ k (m, (i, l, o, u), z). (m, (i, (let a = forward.closes P own x len gap y c e i pos le o in omega arith), u), z))
       h
 
   -- with a longer one, all that come since, and those that waited for it
-  pends-no-room : (e best r p : ℕ) → 1 ≤ e → len < e → Come P t y (gap + len) best → timeOf r ≡ longer (timeOf best) (later (gap + len) (timeOf p))
-      → Longest (Pends P own (tableOf P t) x w e) (timeOf p) → Longest (Pends P own (tableOf P t) y (w + (len + gap)) e) (timeOf r)
-  pends-no-room e best r p pos lt h f k =
-      rw f
-      (longest-same (λ n. Comes P (tableOf P t) y (gap + len) n ⊎ ((m : ℕ) × Pends P own (tableOf P t) x w e m × (n ≡ m + (gap + len)))) _ _
-      (λ n. elim [
-        | inl (i, l, u) ↦ (i, omega arith, forward.opens P own x len gap y c e i pos (omega arith) (omega arith), u)
-        | inr (m, (i, l, o, (c₀, g, u)), v) ↦ (
-          len + gap + i,
+  pends-no-room : (e n n' best : ℕ) (v : Time) → 1 ≤ e → len < e → n ≡ n' + (len + gap) → ComeLater P t y (gap + len) n' best
+      → Longest (Later n (Pends P own (tableOf P t) x w e)) v → Longest (Later n' (Pends P own (tableOf P t) y (w + (len + gap)) e)) (longer (timeOf best) v)
+  pends-no-room e n n' best v pos lt en h k =
+      longest-same (λ j. Later n' (Comes P (tableOf P t) y (gap + len)) j ⊎ Later n (Pends P own (tableOf P t) x w e) j) _ _
+      (λ j. elim [
+        | inl (m, (i, l, u), z) ↦ (m, (i, omega arith, forward.opens P own x len gap y c e i pos (omega arith) (omega arith), u), z)
+        | inr (m, (i, l, o, (c₀, g, u)), z) ↦ (
+          m + (len + gap),
+          (
+            len + gap + i,
+            omega arith,
+            forward.opens-past P own x len gap y c e i pos lt (omega arith) o,
+            (c₀, ap (λ (j : ℕ). getD (tableOf P t) j none) (forward.back-past P own x len gap y c i (omega arith)) ∙ g, omega arith),
+          ),
           omega arith,
-          forward.opens-past P own x len gap y c e i pos lt (omega arith) o,
-          (c₀, ap (λ (j : ℕ). getD (tableOf P t) j none) (forward.back-past P own x len gap y c i (omega arith)) ∙ g, omega arith),
         )
       ])
-      (λ n (i, l, o, (c₀, g, u)).
+      (λ j (m, (i, l, o, (c₀, g, u)), y').
       split i (gap + len)
-      (λ a. inl (i, a, (c₀, g, u)))
+      (λ a. inl (m, (i, a, (c₀, g, u)), y'))
       (λ a.
       let z : len + gap + (i - (len + gap)) ≡ i = omega arith in
       let o' : Open P own e y (len + gap + (i - (len + gap))) = subst (λ (j : ℕ). Open P own e y j) (sym z) o in
@@ -58,24 +67,37 @@ module _ (P : ℕ) (own : ℕ → Bool) (t : List ℕ) (x len gap y : ℕ) (c : 
       ap (λ (j : ℕ). getD (tableOf P t) j none) (sym (forward.back-past P own x len gap y c (i - (len + gap)) (omega arith))
       ∙ ap (λ (j : ℕ). (y + P - j) % P) z) ∙ g in
       inr (c₀ + (i - (len + gap)), (i - (len + gap), omega arith, forward.from-past P own x len gap y c e (i - (len + gap)) (omega arith) o', (c₀, g', refl)), omega arith)))
-      (times-mean .is-join _ _ _ _ h (times-mean .is-later _ (gap + len) _ k)))
+      (times-mean .is-join _ _ _ _ h k)
 
   -- so for each duration, where for those without room it was known
-  pub pends-next : (lo hi : ℕ) (p p' : List ℕ) → 1 ≤ lo
-      → ((e : ℕ) → lo ≤ e → e ≤ hi → ownsNext P own e x ≡ false → Longest (Pends P own (tableOf P t) x w e) (timeOf (getD p e 0)))
-      → Waits P t y gap len lo hi p p' → (e : ℕ) → lo ≤ e → e ≤ hi → Longest (Pends P own (tableOf P t) y (w + (len + gap)) e) (timeOf (getD p' e 0))
-  pends-next lo hi p p' pos before h e a b =
+  pub pends-next : (lo hi top over n n' run best : ℕ) (p q r : List ℕ) → 1 ≤ lo → top ≡ min hi len → over ≡ max lo (len + 1) → n ≡ n' + (len + gap)
+      → Waiting P own t x w len n lo hi run p → ComeLater P t y (gap + top) n' best → Shorter P t y gap n' lo (max lo (top + 1)) p q → WaitsOn over hi run best q r
+      → (e : ℕ) → lo ≤ e → e ≤ hi → Longest (Later n' (Pends P own (tableOf P t) y (w + (len + gap)) e)) (among r lo (e + 1))
+  pends-next lo hi top over n n' run best p q r pos is-top is-over en before h short on e a b =
       split e len
-      (λ l. pends-room e (getD p' e 0) (omega arith) l (h .room e a b l))
-      (λ l. let (best, come, f) = h .no-room e a b l in
-      pends-no-room e best (getD p' e 0) (getD p e 0) (omega arith) l come f (before e a b (run-may P own x len e (c .run) ∙ lt-leb e len l)))
+      (λ l. pends-room e n' _ (omega arith) l (among-room P t y gap n' lo top over hi run best p q r (omega arith) (omega arith) short on e a (omega arith)))
+      (λ l.
+      let same : top ≡ len = omega arith in
+      rw (among-on P t y gap n' lo top over hi run best p q r (omega arith) (omega arith) short on (omega arith) h e (omega arith) b)
+      (pends-no-room e n n' best _ (omega arith) l en (subst (λ (k : ℕ). ComeLater P t y (gap + k) n' best) same h)
+      (subst (λ (k : ℕ). Longest (Later n (Pends P own (tableOf P t) x w e)) (longer (timeOf run) (among p k (e + 1)))) (sym is-over) (before e a b l))))
+
+-- what is pending for the durations that a stretch has room for waits on with the longer ones
+pub waits-still : (P : ℕ) (own : ℕ → Bool) (t : List ℕ) (x w len n lo hi top run : ℕ) (p : List ℕ) → top ≡ min hi len → timeOf run ≡ among p lo (max lo (top + 1))
+    → ((e : ℕ) → lo ≤ e → e ≤ hi → Longest (Later n (Pends P own (tableOf P t) x w e)) (among p lo (e + 1))) → Waiting P own t x w len n lo hi run p
+waits-still P own t x w len n lo hi top run p is-top is-run means e a b l =
+    let same : top ≡ len = omega arith in
+    let whole : longer (timeOf run) (among p (max lo (len + 1)) (e + 1)) ≡ among p lo (e + 1) =
+    ap (λ (u : Time). longer u (among p (max lo (len + 1)) (e + 1))) (is-run ∙ ap (λ (k : ℕ). among p lo (max lo (k + 1))) same)
+    ∙ among-both p lo (max lo (len + 1)) (e + 1) (omega arith) (omega arith) in
+    rw whole (means e a b)
 
 -- the times that are pending are far below 2^64
-pub pends-small : (P : ℕ) (own : ℕ → Bool) (t : List ℕ) (a w e r : ℕ) → Fits P t → 0 < P → Longest (Pends P own (tableOf P t) a w e) (timeOf r) → ¬ (r ≡ noTime)
-    → r ≤ 1152921504606846976 + w
-pends-small P own t a w e r fits pos h n =
-    let ((i, l, o, (c₀, g, u)), v) = longest-some h r (time-some r n) in
-    omega (arith, entry-small P t (a + P - i) i c₀ r fits pos g u, l)
+pub pends-small : (P : ℕ) (own : ℕ → Bool) (t : List ℕ) (a w e n r : ℕ) (v : Time) → Fits P t → 0 < P → Longest (Later n (Pends P own (tableOf P t) a w e)) v → v ≡ some r
+    → (n ≤ r) × (r ≤ 1152921504606846976 + w + n)
+pends-small P own t a w e n r v fits pos h is =
+    let ((m, (i, l, o, (c₀, g, u)), z), k) = longest-some h r is in
+    (omega arith, omega (arith, entry-small P t (a + P - i) i c₀ m fits pos g u, l))
 
 -- ---- where it begins
 
@@ -85,20 +107,24 @@ some-of c₀ (nothing h) x f = absurd (h c₀ x)
 some-of c₀ (reached {t = t} y k) x f = f t refl (k c₀ x)
 
 -- what a pending time means, instead of its value
-pended-means : (P : ℕ) (p : List ℕ) (a lo top q : ℕ) (D : ℕ → Type 0) (X : ℕ → ℕ → Type 0) (v : Time)
-    → ((e : ℕ) → lo ≤ e → e < top → Longest (X e) (timeOf (getD p e 0))) → Longest (λ c. D c ⊎ Pended P p a lo top q c) v
-    → Longest (λ c. D c ⊎ ((e : ℕ) × (lo ≤ e) × (e < top) × ((a + e) % P ≡ q) × ((c₀ : ℕ) × X e c₀ × (c ≡ c₀ + e)))) v
-pended-means P p a lo top q D X v means (nothing h) =
+pended-means : (P : ℕ) (p : List ℕ) (a rest lo top q : ℕ) (D : ℕ → Type 0) (X : ℕ → ℕ → Type 0) (v : Time)
+    → ((e : ℕ) → lo ≤ e → e < top → Longest (Later rest (X e)) (among p lo (e + 1))) → Longest (λ c. D c ⊎ Pended P p a rest lo top q c) v
+    → Longest (λ c. D c ⊎ ((e : ℕ) × (lo ≤ e) × (e < top) × ((a + e) % P ≡ q) × Later e (X e) c)) v
+pended-means P p a rest lo top q D X v means (nothing h) =
     nothing (λ c. elim [
       | inl d ↦ h c (inl d)
-      | inr (e, l, m, g, (c₀, x, u)) ↦ some-of c₀ (means e l m) x (λ t z n. h (t + e) (inr (e, l, m, g, (t, z, refl))))
+      | inr (e, l, m, g, (c₀, x, u)) ↦ some-of (c₀ + rest) (means e l m) (c₀, x, refl) (λ t z n. h (t + e - rest) (inr (e, l, m, g, (t, z, omega arith))))
     ])
-pended-means P p a lo top q D X v means (reached {t = t} g k) =
+pended-means P p a rest lo top q D X v means (reached {t = t} g k) =
     reached {t = t}
-    (elim g [ inl d ↦ inl d | inr (e, l, m, g, (c₀, z, u)) ↦ inr (e, l, m, g, (c₀, longest-some (means e l m) c₀ z .0, u)) ])
+    (elim g [
+      | inl d ↦ inl d
+      | inr (e, l, m, g, (c₀, z, u)) ↦ (let (c₁, x, w) = longest-some (means e l m) c₀ z .0 in inr (e, l, m, g, (c₁, x, omega arith)))
+    ])
     (λ c. elim [
       | inl d ↦ k c (inl d)
-      | inr (e, l, m, g, (c₀, x, u)) ↦ some-of c₀ (means e l m) x (λ s z n. omega (arith, k (s + e) (inr (e, l, m, g, (s, z, refl)))))
+      | inr (e, l, m, g, (c₀, x, u)) ↦
+          some-of (c₀ + rest) (means e l m) (c₀, x, refl) (λ s z n. omega (arith, k (s + e - rest) (inr (e, l, m, g, (s, z, omega arith)))))
     ])
 
 module _ (P : ℕ) (own : ℕ → Bool) (t : List ℕ) (a w lo hi len : ℕ) (run : IsRun P own a len) (some-way : 1 ≤ w) (few : w ≤ P)
@@ -107,26 +133,25 @@ module _ (P : ℕ) (own : ℕ → Bool) (t : List ℕ) (a w lo hi len : ℕ) (ru
   within : (e i : ℕ) → e ≤ hi → Open P own e a i → i < w
   within e i l o = split w i (λ m. absurd (false≢true (sym (o w some-way m) ∙ starts e l))) (λ m. m)
 
-  pub left-of : (p o r : List ℕ) (top : ℕ) → (hi ≤ len → top ≡ hi) → (len < hi → top ≡ len)
-      → ((e : ℕ) → lo ≤ e → e ≤ hi → Longest (Pends P own (tableOf P t) a w e) (timeOf (getD p e 0))) → LeftBy P p a lo (top + 1) o r → LeftOf P own t a lo hi o r
+  pub left-of : (p o r : List ℕ) (rest top : ℕ) → top ≡ min hi len
+      → ((e : ℕ) → lo ≤ e → e ≤ hi → Longest (Later rest (Pends P own (tableOf P t) a w e)) (among p lo (e + 1))) → LeftBy P p a rest lo (max lo (top + 1)) o r
+      → LeftOf P own t a lo hi o r
   unfolding LeftOf LeftBy
-  left-of p o r top is-hi is-len means left q l =
-      let least : (e : ℕ) → e ≤ top → (e ≤ hi) × (e ≤ len) = λ e h. split hi len (λ m. (omega (arith, is-hi m), omega (arith, is-hi m))) (λ m. (omega (arith, is-len m), omega (arith, is-len m))) in
+  left-of p o r rest top is-top means left q l =
       longest-same _ _ _
       (λ c. elim [
         | inl g ↦ inl g
         | inr (e, i, j, g, (c₀, (k, m, u, (c₁, h, x)), y)) ↦
-            (let (z, v) = least e (omega arith) in
-            inr (e, i, z, run-may P own a len e run ∙ le-leb e len v, g, (k, (let s = within e k z u in omega arith), u, (c₁, h, omega arith))))
+            (let z : e ≤ hi = omega arith in
+            inr (e, i, z, run-may P own a len e run ∙ le-leb e len (omega arith), g, (k, (let s = within e k z u in omega arith), u, (c₁, h, omega arith))))
       ])
       (λ c. elim [
         | inl g ↦ inl g
         | inr (e, i, j, s, g, (k, m, u, (c₁, h, x))) ↦
             (let v : e ≤ len = split e len (λ n. n) (λ n. absurd (false≢true (sym (lt-leb e len n) ∙ sym (run-may P own a len e run) ∙ s))) in
-            let z : e ≤ top = split hi len (λ n. omega (arith, is-hi n)) (λ n. omega (arith, is-len n)) in
             inr (e, i, omega arith, g, (c₁ + k, (k, (let n = within e k j u in omega arith), u, (c₁, h, refl)), omega arith)))
       ])
-      (pended-means P p a lo (top + 1) q _ (λ e c. Pends P own (tableOf P t) a w e c) _ (λ e i j. means e i (least e (omega arith) .0)) (left q l))
+      (pended-means P p a rest lo (max lo (top + 1)) q _ (λ e c. Pends P own (tableOf P t) a w e c) _ (λ e i j. means e i (omega arith)) (left q l))
 
 -- ---- of those that begin up to n cycles after f
 

@@ -7,7 +7,8 @@ use mathlib.Core.List.{List}
 use mathlib.Core.Bool.{Bool, true}
 use lib.ListN.{getD}
 use Prim.Native.Nat.{ℕ, _+_, _-_, _%_, _≤_, _<_}
-use Rattle.runs.specs.Figures.{Time, noTime, longer, later as laterBy}
+use Rattle.runs.specs.Carried.{joinBelow}
+use Rattle.runs.specs.Figures.{Time, longer}
 use Rattle.runs.specs.Demand3.{Longest}
 use Rattle.runs.specs.Schedules.{ownsNext}
 use Rattle.runs.specs.Stretches.{Begins, Open}
@@ -27,6 +28,14 @@ Comes P T a w c = (i : ℕ) × (i ≤ w) × ((c₀ : ℕ) × (getD T ((a + P - i
 
 abbrev pub Come : ℕ → List ℕ → ℕ → ℕ → ℕ → Type 0
 Come P t a w r = Longest (Comes P (tableOf P t) a w) (timeOf r)
+
+-- c' is a count that is n more than one of C
+abbrev pub Later : ℕ → (ℕ → Type 0) → ℕ → Type 0
+Later n C c' = (c : ℕ) × C c × (c' ≡ c + n)
+
+-- r is the longest of what comes, n cycles later
+abbrev pub ComeLater : ℕ → List ℕ → ℕ → ℕ → ℕ → ℕ → Type 0
+ComeLater P t a w n r = Longest (Later n (Comes P (tableOf P t) a w)) (timeOf r)
 
 module _ (P : ℕ) (own : ℕ → Bool) (T : List Time) where
   -- c is a count with which an entry that is at most w cycles before a, and waits for it with an access of e cycles, comes there
@@ -57,32 +66,36 @@ LeftAll P own t lo hi o r =
 
 -- ---- what is pending for each duration
 
--- the times for the durations from lo to hi are far below 2^64
-abbrev pub Small : List ℕ → ℕ → ℕ → Type 0
-Small p lo hi = (e : ℕ) → lo ≤ e → e ≤ hi → ¬ (getD p e 0 ≡ noTime) → getD p e 0 ≤ 1152921504606846976 + 512
+-- the longest time of p for the durations from lo to below e
+unfoldable pub among : List ℕ → ℕ → ℕ → Time
+unfolding joinBelow longer timeOf
+among p lo e = joinBelow none longer (e - lo) (λ i. timeOf (getD p (lo + i) 0))
 
--- for the durations from lo to below top, p' has what comes to y from over the gap and from less than so many offsets before it; for longer ones p' is p
-pub record Shorter (P : ℕ) (t : List ℕ) (y gap lo top : ℕ) (p p' : List ℕ) : Type 0 where
-  pub comes : (e : ℕ) → lo ≤ e → e < top → Come P t y (gap + e - 1) (getD p' e 0)
+-- these times are at least `rest` and far below 2^64, up to each of the durations from lo to hi
+abbrev pub Small : List ℕ → ℕ → ℕ → ℕ → Type 0
+Small p rest lo hi = (e c : ℕ) → lo ≤ e → e ≤ hi → among p lo (e + 1) ≡ some c → (rest ≤ c) × (c ≤ 1152921504606846976 + 512)
+
+-- for the durations from lo to below top, p' has what comes to y from over the gap and from less than so many offsets before it, `rest` cycles
+-- later; for longer ones p' is p
+pub record Shorter (P : ℕ) (t : List ℕ) (y gap rest lo top : ℕ) (p p' : List ℕ) : Type 0 where
+  pub comes : (e : ℕ) → lo ≤ e → e < top → ComeLater P t y (gap + e - 1) rest (getD p' e 0)
   pub above : (e : ℕ) → top ≤ e → getD p' e 0 ≡ getD p e 0
 
--- for the durations from `from` to below top, p' has the longer of `best` and of p's n cycles later; for others p' is p
-pub record Longer (from top n best : ℕ) (p p' : List ℕ) : Type 0 where
-  pub later : (e : ℕ) → from ≤ e → e < top → timeOf (getD p' e 0) ≡ longer (timeOf best) (laterBy n (timeOf (getD p e 0)))
-  pub below : (e : ℕ) → e < from → getD p' e 0 ≡ getD p e 0
-  pub above : (e : ℕ) → top ≤ e → getD p' e 0 ≡ getD p e 0
+-- for the duration `over`, if it is none beyond hi, p' has the longest of p's time, run and best; for others p' is p
+pub record WaitsOn (over hi run best : ℕ) (p p' : List ℕ) : Type 0 where
+  pub joins : over ≤ hi → timeOf (getD p' over 0) ≡ longer (timeOf (getD p over 0)) (longer (timeOf run) (timeOf best))
+  pub others : (e : ℕ) → ¬ (e ≡ over) → getD p' e 0 ≡ getD p e 0
 
--- both, of the durations from lo to hi: those that a stretch of len cycles has room for, and those that it has no room for
-pub record Waits (P : ℕ) (t : List ℕ) (y gap len lo hi : ℕ) (p p' : List ℕ) : Type 0 where
-  pub room : (e : ℕ) → lo ≤ e → e ≤ hi → e ≤ len → Come P t y (gap + e - 1) (getD p' e 0)
-  pub no-room : (e : ℕ) → lo ≤ e → e ≤ hi → len < e
-      → (best : ℕ) × Come P t y (gap + len) best × (timeOf (getD p' e 0) ≡ longer (timeOf best) (laterBy (gap + len) (timeOf (getD p e 0))))
+-- r is the time v less `rest` cycles and e more
+abbrev pub Ended : ℕ → ℕ → ℕ → ℕ → Type 0
+Ended v rest e r = Longest (λ c'. (c : ℕ) × (timeOf v ≡ some c) × (c' + rest ≡ c + e)) (timeOf r)
 
 -- c' is a count with which what is pending for one of the durations from lo to below top ends at q
-abbrev pub Pended : ℕ → List ℕ → ℕ → ℕ → ℕ → ℕ → ℕ → Type 0
-Pended P p a lo top q c' = (e : ℕ) × (lo ≤ e) × (e < top) × ((a + e) % P ≡ q) × ((c : ℕ) × (timeOf (getD p e 0) ≡ some c) × (c' ≡ c + e))
+abbrev pub Pended : ℕ → List ℕ → ℕ → ℕ → ℕ → ℕ → ℕ → ℕ → Type 0
+Pended P p a rest lo top q c' =
+    (e : ℕ) × (lo ≤ e) × (e < top) × ((a + e) % P ≡ q) × ((c : ℕ) × (among p lo (e + 1) ≡ some c) × (c' + rest ≡ c + e))
 
 -- r is o with all that
-unfoldable pub LeftBy : ℕ → List ℕ → ℕ → ℕ → ℕ → List ℕ → List ℕ → Type 0
-unfolding timeOf
-LeftBy P p a lo top o r = (q : ℕ) → q < P → Longest (λ c. (timeOf (getD o q 0) ≡ some c) ⊎ Pended P p a lo top q c) (timeOf (getD r q 0))
+unfoldable pub LeftBy : ℕ → List ℕ → ℕ → ℕ → ℕ → ℕ → List ℕ → List ℕ → Type 0
+unfolding timeOf among
+LeftBy P p a rest lo top o r = (q : ℕ) → q < P → Longest (λ c. (timeOf (getD o q 0) ≡ some c) ⊎ Pended P p a rest lo top q c) (timeOf (getD r q 0))

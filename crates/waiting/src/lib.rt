@@ -1,6 +1,7 @@
 // waiting: the entries of a table that wait for an access (document 01, "The bus and a run"), on any bus. Each waits for a stretch of offsets that the
-// core owns, and starts where that begins. Going once round the period from stretch to stretch, what waits is kept for each duration: an access that
-// a stretch has room for starts there, or within it, and one that it has no room for waits on.
+// core owns, and starts where that begins. Going once round the period from stretch to stretch, an access that a stretch has room for starts there, or
+// within it, and one that it has no room for waits on. What waits with a duration is the longest time kept for it and for the shorter ones, each as it
+// would be at the end of the round: so what waits on past a stretch is written at one duration only.
 //
 // Promise: `arrive_all` joins to a table the entries that wait, or stand where a stretch begins, for each duration that the stretch has room for
 // (`LeftAll`).
@@ -9,8 +10,8 @@ ghost use mathlib.Core.Path.{_≡_};
 ghost use lib.ListN.{length};
 ghost use Prim.Native.Nat.{_+_, _-_, _<_, _≤_, max};
 ghost use Rattle.bus.specs.Owning.{owns, Fit};
-ghost use Rattle.times.specs.Arrays.{Fits};
-ghost use Rattle.waiting.specs.Waiting.{Reach, Come, Small, Shorter, Longer, Waits, LeftBy, LeftAll};
+ghost use Rattle.times.specs.Arrays.{noTime, timeOf, Fits};
+ghost use Rattle.waiting.specs.Waiting.{Reach, Come, ComeLater, Shorter, WaitsOn, among, Small, Ended, LeftBy, LeftAll};
 use bus::Bus;
 
 // The longest time of the entries from `from` to below `to`, each `base - o` cycles later.
@@ -42,7 +43,7 @@ fn come(t: &[u64], period: usize, y: usize, n: usize) -> u64
 }
 
 // What waits for y with each duration from lo to top, which the stretch before it has room for: `gap` offsets before y are not owned, and then all but
-// one of as many as the duration has. The answer is the longest time with one offset more.
+// one of as many as the duration has. The answer is the longest time with top of them, also where top is below lo. Each time is `rest` cycles later.
 fn within(
     t: &[u64],
     pending: &mut [u64; 256],
@@ -51,71 +52,79 @@ fn within(
     gap: usize,
     lo: usize,
     top: usize,
+    rest: usize,
 ) -> u64
-    requires { ⌜ (y < period) × (1 ≤ lo) × (lo ≤ top) × (top ≤ 255) × (gap + top ≤ period) × (period ≤ 256) × Fits period (now t) × (period ≤ length (now t)) × (length (now pending) ≡ 256) ⌝ }
-    ensures { λ r. ⌜ Come period (now (t .entry)) y (gap + top) r × (length (now (pending .exit)) ≡ 256) × Shorter period (now (t .entry)) y gap lo (top + 1) (now (pending .entry)) (now (pending .exit)) ⌝ }
+    requires { ⌜ (y < period) × (1 ≤ lo) × (top ≤ 255) × (gap + top ≤ period) × (period ≤ 256) × (rest ≤ 256) × Fits period (now t) × (period ≤ length (now t)) × (length (now pending) ≡ 256) ⌝ }
+    ensures { λ r. ⌜ ComeLater period (now (t .entry)) y (gap + top) rest r × (length (now (pending .exit)) ≡ 256) × Shorter period (now (t .entry)) y gap rest lo (max lo (top + 1)) (now (pending .entry)) (now (pending .exit)) ⌝ }
 {
-    let mut best = come(t, period, y, gap + lo - 1);
-    let mut at = bus::turn_back_by(y, gap + lo - 1, period);
+    let n = gap + times::least(lo - 1, top);
+    let mut best = times::later_by(come(t, period, y, n), rest);
+    let mut at = bus::turn_back_by(y, n, period);
     let mut e = lo;
     while e <= top {
         pending[e] = best;
         at = bus::turn_back(at, period);
-        best = times::longer_of(best, times::later_by(t[at], gap + e));
+        best = times::longer_of(best, times::later_by(t[at], gap + rest + e));
         e += 1;
     }
     best
 }
 
-// What waits with each duration from `from` to hi, which the stretch has no room for: what has come since, and what waited for the stretch, n cycles later.
-fn beyond(pending: &mut [u64; 256], from: usize, hi: usize, n: usize, best: u64)
-    requires { ⌜ (from ≤ hi + 1) × (hi ≤ 255) × (n ≤ 256) × (length (now pending) ≡ 256) × Small (now pending) from hi ⌝ }
-    ensures { λ _. ⌜ (length (now (pending .exit)) ≡ 256) × Longer from (hi + 1) n best (now (pending .entry)) (now (pending .exit)) ⌝ }
+// The first duration from lo on that a stretch of len cycles has no room for.
+fn past(lo: usize, len: usize) -> usize
+    requires { ⌜ len ≤ 256 ⌝ }
+    ensures { λ r. ⌜ r ≡ max lo (len + 1) ⌝ }
 {
-    let mut e = from;
-    while e <= hi {
-        pending[e] = times::longer_of(best, times::later_by(pending[e], n));
-        e += 1;
+    if len < lo { lo } else { len + 1 }
+}
+
+// What waits on past a stretch with `over` cycles or more, for which that has no room: beside what is pending there, what was pending for shorter
+// durations (`run`) and what has come since (`best`).
+fn wait_on(pending: &mut [u64; 256], over: usize, hi: usize, run: u64, best: u64)
+    requires { ⌜ (hi ≤ 255) × (length (now pending) ≡ 256) ⌝ }
+    ensures { λ _. ⌜ (length (now (pending .exit)) ≡ 256) × WaitsOn over hi run best (now (pending .entry)) (now (pending .exit)) ⌝ }
+{
+    if over <= hi {
+        pending[over] = times::longer_of(pending[over], times::longer_of(run, best));
     }
 }
 
-// What waits for y with each duration from lo to hi. Before y stand `gap` offsets that are not owned and a stretch of len cycles; `pending` has what
-// waits for that.
-fn pend(
-    t: &[u64],
-    pending: &mut [u64; 256],
+// When an access of e cycles ends that starts `rest` cycles before v, or none.
+fn ended(v: u64, rest: usize, e: usize) -> u64
+    requires { ⌜ (e ≤ 255) × (¬ (v ≡ noTime) → (rest ≤ v) × (v ≤ 1152921504606846976 + 512)) ⌝ }
+    ensures { λ r. ⌜ Ended v rest e r ⌝ }
+{
+    if v == 0xffff_ffff_ffff_ffff {
+        v
+    } else {
+        v - rest as u64 + e as u64
+    }
+}
+
+// `out` with what is pending at a for each duration from lo to top, so many cycles later: the longest time kept for it and the shorter ones, without
+// the `rest` cycles. The answer is the longest time kept for them all.
+fn leave(
+    pending: &[u64; 256],
+    out: &mut [u64; 256],
     period: usize,
-    y: usize,
-    gap: usize,
-    len: usize,
+    a: usize,
     lo: usize,
-    hi: usize,
-)
-    requires { ⌜ (y < period) × (1 ≤ lo) × (lo ≤ hi) × (hi ≤ 255) × (len + gap ≤ period) × (period ≤ 256) × Fits period (now t) × (period ≤ length (now t)) × (length (now pending) ≡ 256) × Small (now pending) (max lo (len + 1)) hi ⌝ }
-    ensures { λ _. ⌜ (length (now (pending .exit)) ≡ 256) × Waits period (now (t .entry)) y gap len lo hi (now (pending .entry)) (now (pending .exit)) ⌝ }
+    top: usize,
+    rest: usize,
+) -> u64
+    requires { ⌜ (a < period) × (period ≤ 256) × (lo ≤ 255) × (top ≤ 255) × (length (now out) ≡ 256) × Small (now pending) rest lo top ⌝ }
+    ensures { λ r. ⌜ (timeOf r ≡ among (now (pending .entry)) lo (max lo (top + 1))) × (length (now (out .exit)) ≡ 256) × LeftBy period (now (pending .entry)) a rest lo (max lo (top + 1)) (now (out .entry)) (now (out .exit)) ⌝ }
 {
-    if len < lo {
-        let best = come(t, period, y, gap + len);
-        beyond(pending, lo, hi, gap + len, best);
-        return;
-    }
-    let top = times::least(hi, len);
-    let best = within(t, pending, period, y, gap, lo, top);
-    beyond(pending, top + 1, hi, gap + len, best);
-}
-
-// `out` with what is pending at a for each duration from lo to top, so many cycles later.
-fn leave(pending: &[u64; 256], out: &mut [u64; 256], period: usize, a: usize, lo: usize, top: usize)
-    requires { ⌜ (a < period) × (period ≤ 256) × (lo ≤ 255) × (top ≤ 255) × (length (now out) ≡ 256) × Small (now pending) lo top ⌝ }
-    ensures { λ _. ⌜ (length (now (out .exit)) ≡ 256) × LeftBy period (now (pending .entry)) a lo (top + 1) (now (out .entry)) (now (out .exit)) ⌝ }
-{
+    let mut run = 0xffff_ffff_ffff_ffffu64;
     let mut q = (a + lo) % period;
     let mut e = lo;
     while e <= top {
-        out[q] = times::longer_of(out[q], times::later_by(pending[e], e));
+        run = times::longer_of(run, pending[e]);
+        out[q] = times::longer_of(out[q], ended(run, rest, e));
         q = bus::turn(q, period);
         e += 1;
     }
+    run
 }
 
 // `out` with the entries of t that wait, or stand where a stretch begins, for an access of lo to hi cycles: stretch by stretch, once round the
@@ -125,15 +134,21 @@ pub fn arrive_all(t: &[u64], out: &mut [u64; 256], b: Bus, lo: usize, hi: usize)
     ensures { λ _. ⌜ (length (now (out .exit)) ≡ 256) × LeftAll (b .period) (owns b) (now (t .entry)) lo hi (now (out .entry)) (now (out .exit)) ⌝ }
 {
     let mut pending = [0xffff_ffff_ffff_ffffu64; 256];
+    let mut run = 0xffff_ffff_ffff_ffffu64;
+    let mut i = b.longest;
     let mut x = b.first;
     let mut len = b.most;
     let mut gone = 0;
     while gone < b.period {
-        let n = bus::next_stretch(b, x, len);
-        pend(t, &mut pending, b.period, n.at, n.gap, len, lo, hi);
+        let n = bus::next_stretch(b, i, x, len);
         gone += len + n.gap;
+        let rest = b.period - gone;
+        let top = times::least(hi, len);
+        let best = within(t, &mut pending, b.period, n.at, n.gap, lo, top, rest);
+        wait_on(&mut pending, past(lo, len), hi, run, best);
+        i = n.i;
         x = n.at;
         len = n.len;
-        leave(&pending, out, b.period, x, lo, times::least(hi, len));
+        run = leave(&pending, out, b.period, x, lo, times::least(hi, len), rest);
     }
 }

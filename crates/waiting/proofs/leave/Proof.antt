@@ -1,22 +1,24 @@
--- Before each turn the durations from lo to below e have left; the next ends at q.
-use mathlib.Core.Path.{_≡_, refl, _∙_, ap}
-use mathlib.Core.Logic.{_⊎_, inl, inr}
-use Prim.Native.Nat.{ℕ, _+_, _-_, _%_, _≤_, _<_}
+-- Before each turn the durations from lo to below e have left, and `run` is the longest time pending for them; the next ends at q.
+use mathlib.Core.Path.{_≡_, refl, sym, _∙_, ap, subst}
+use Prim.Native.Nat.{ℕ, _+_, _-_, _%_, _≤_, _<_, max}
 use native.Mathlib.Nat.{mod-lt, mod-add-mod}
 use lib.ListN.{length, length-set}
-use Rattle.waiting.specs.Waiting.{LeftBy}
-use Rattle.waiting.proofs.Pending.{left-none, left-more, left-end}
+use Rattle.times.specs.Arrays.{timeOf}
+use Rattle.times.proofs.Tables.{time-some}
+use Rattle.waiting.specs.Waiting.{among, LeftBy}
+use Rattle.waiting.proofs.Pending.{among-none, among-more, left-none, left-more}
 use native.Mathlib.Omega.{arith}
 use borrow.Author.Needs.{needs}
 use Rattle.waiting.proofs.leave.Statement.{statement}
 use Rattle.waiting.proofs.leave.Tie as tie
 
 abbrev Inv-loop : tie.InvT-loop
-Inv-loop pending out₀ period a lo top q₀ e₀ out q e =
-    (lo ≤ e) × ((e ≤ lo) ⊎ (e ≤ top + 1)) × (length out ≡ 256) × (q < period) × (q ≡ (a + e) % period) × LeftBy period pending a lo e out₀ out
+Inv-loop pending out₀ period a lo top rest run₀ q₀ e₀ out run q e =
+    (lo ≤ e) × (e ≤ max lo (top + 1)) × (length out ≡ 256) × (q < period) × (q ≡ (a + e) % period) × (timeOf run ≡ among pending lo e)
+    × LeftBy period pending a rest lo e out₀ out
 
 abbrev μ-loop : tie.MeasureT-loop
-μ-loop pending out₀ period a lo top q₀ e₀ out q e = top + 1 - e
+μ-loop pending out₀ period a lo top rest run₀ q₀ e₀ out run q e = top + 1 - e
 
 add-q : tie.Need-add-q Inv-loop μ-loop
 add-q c = omega arith
@@ -27,7 +29,7 @@ rem-q c = omega (arith, c .pre .0)
 loop-holds : tie.Need-loop-holds Inv-loop μ-loop
 loop-holds c =
     let a = c .args in
-    (omega arith, inl (omega arith), c .pre .4, mod-lt (a .a + a .lo) (omega (arith, c .pre .0)), refl, left-none _ _ _ _ _)
+    (omega arith, omega arith, c .pre .4, mod-lt (a .a + a .lo) (omega (arith, c .pre .0)), refl, among-none _ _ _ refl, left-none _ _ _ _ _ _)
 
 mul-longer-of : tie.Need-mul-longer-of Inv-loop μ-loop
 mul-longer-of c = omega arith
@@ -35,21 +37,33 @@ mul-longer-of c = omega arith
 element-copy-out-longer-of : tie.Need-element-copy-out-longer-of Inv-loop μ-loop
 element-copy-out-longer-of c = omega arith
 
-mul-later-by : tie.Need-mul-later-by Inv-loop μ-loop
-mul-later-by c = omega arith
-
-element-copy-out-later-by : tie.Need-element-copy-out-later-by Inv-loop μ-loop
-element-copy-out-later-by c = omega arith
-
-later-by-requires : tie.Need-later-by-requires Inv-loop μ-loop
-later-by-requires c κs =
-    let s = c .before .before .before .before in
-    let l = c .before .before .before .loop in
-    let last = c .before .before .loop-test .taken in
-    (omega (arith, last, s .pre .3), (λ n. omega (arith, s .pre .5 (l .e) (omega (arith, l .inv .0)) (omega (arith, last)) n, last, s .pre .3)))
-
 longer-of-requires : tie.Need-longer-of-requires Inv-loop μ-loop
 longer-of-requires c κs = search needs
+
+mul-longer-of-2 : tie.Need-mul-longer-of-2 Inv-loop μ-loop
+mul-longer-of-2 c = omega arith
+
+element-copy-out-longer-of-2 : tie.Need-element-copy-out-longer-of-2 Inv-loop μ-loop
+element-copy-out-longer-of-2 c = omega arith
+
+-- the longest of the pending times, with this one
+more : (c : tie.After-longer-of Inv-loop μ-loop) → (
+    let s = c .before .before .before .before in
+    timeOf (c .longer-of .result) ≡ among (s .args .pending .now) (s .args .lo) (c .before .before .before .loop .e + 1)
+    )
+more c =
+    let l = c .before .before .before .loop in
+    among-more _ _ (l .e) (l .run) _ (l .inv .0) (l .inv .5) (c .longer-of .ensures)
+
+ended-requires : tie.Need-ended-requires Inv-loop μ-loop
+ended-requires c κs =
+    let s = c .before .before .before .before .before in
+    let l = c .before .before .before .before .loop in
+    let last = c .before .before .before .loop-test .taken in
+    (omega (arith, last, s .pre .3), (λ n. s .pre .5 (l .e) _ (l .inv .0) last (sym (more (c .before)) ∙ time-some _ n)))
+
+longer-of-requires-2 : tie.Need-longer-of-requires-2 Inv-loop μ-loop
+longer-of-requires-2 c κs = search needs
 
 mul-out : tie.Need-mul-out Inv-loop μ-loop
 mul-out c = omega arith
@@ -59,8 +73,8 @@ element-write-out c = omega arith
 
 turn-requires : tie.Need-turn-requires Inv-loop μ-loop
 turn-requires c κs =
-    let s = c .before .before .before .before .before .before in
-    (c .before .before .before .before .before .loop .inv .3, s .pre .1)
+    let s = c .before .before .before .before .before .before .before in
+    (c .before .before .before .before .before .before .loop .inv .3, s .pre .1)
 
 add-e : tie.Need-add-e Inv-loop μ-loop
 add-e c = omega arith
@@ -70,27 +84,33 @@ loop-less c = omega arith
 
 loop-again : tie.Need-loop-again Inv-loop μ-loop
 loop-again c =
-    let s = c .before .before .before .before .before .before .before in
+    let s = c .before .before .before .before .before .before .before .before in
     let a = s .args in
-    let l = c .before .before .before .before .before .before .loop in
-    let last = c .before .before .before .before .before .loop-test .taken in
+    let l = c .before .before .before .before .before .before .before .loop in
+    let last = c .before .before .before .before .before .before .loop-test .taken in
+    let run = more (c .before .before .before .before) in
     let pos : 0 < a .period = omega (arith, s .pre .0) in
     let is : c .turn .result ≡ (a .a + (l .e + 1)) % a .period =
     c .turn .ensures ∙ ap (λ (x : ℕ). (x + 1) % a .period) (l .inv .4) ∙ mod-add-mod (a .a + l .e) (a .period) 1
     ∙ ap (λ (x : ℕ). x % a .period) (let z : a .a + l .e + 1 ≡ a .a + (l .e + 1) = omega arith in z) in (
       omega (arith, l .inv .0),
-      inr (omega (arith, last)),
+      omega (arith, last),
       simp length-set (omega (arith, l .inv .2)),
       omega (arith, is, mod-lt (a .a + (l .e + 1)) pos),
       is,
-      left-more _ _ _ _ _ _ _ _ _ _ (l .inv .0) (l .inv .4) (omega (arith, l .inv .2, l .inv .3, s .pre .1)) (c .before .before .later-by .ensures) (c .before .longer-of .ensures) (l .inv .5),
+      run,
+      left-more _ _ _ _ _ _ _ _ _ _ _ _ (l .inv .0) (l .inv .4) (omega (arith, l .inv .2, l .inv .3, s .pre .1)) run (c .before .before .ended .ensures) (c .before .longer-of2 .ensures) (l .inv .6),
     )
 
 returns : tie.Need-returns Inv-loop μ-loop
 returns c =
     let a = c .before .before .args in
     let l = c .before .loop in
-    (l .inv .2, left-end _ _ (a .a) (a .lo) (l .e) (a .top + 1) _ _ (omega (arith, c .loop-test .left)) (l .inv .1) (l .inv .5))
+    let z : l .e ≡ max (a .lo) (a .top + 1) = omega (arith, c .loop-test .left, l .inv .0, l .inv .1) in (
+      l .inv .5 ∙ ap (among (a .pending .now) (a .lo)) z,
+      l .inv .2,
+      subst (λ (e : ℕ). LeftBy (a .period) (a .pending .now) (a .a) (a .rest) (a .lo) e (a .out .now) (l .out)) z (l .inv .6),
+    )
 
 pub leave-spec : {M : Type 1} → statement M
 leave-spec =
@@ -103,10 +123,11 @@ leave-spec =
     loop-holds
     mul-longer-of
     element-copy-out-longer-of
-    mul-later-by
-    element-copy-out-later-by
-    later-by-requires
     longer-of-requires
+    mul-longer-of-2
+    element-copy-out-longer-of-2
+    ended-requires
+    longer-of-requires-2
     mul-out
     element-write-out
     turn-requires

@@ -1,11 +1,12 @@
--- Before each turn the durations from lo to below e are done, and `best` is what waits with e cycles; the earliest of it comes from `at`.
+-- Before each turn the durations from lo to below e are done, and `best` is what waits with e cycles, or with one more than top; the earliest of it comes
+-- from `at`.
 use mathlib.Core.Path.{_≡_, sym, _∙_, ap, subst}
-use Prim.Native.Nat.{ℕ, _+_, _-_, _%_, _≤_, _<_}
+use Prim.Native.Nat.{ℕ, _+_, _-_, _%_, _≤_, _<_, min, max}
 use native.Mathlib.Nat.{mod-lt}
 use lib.ListN.{getD, length, length-set}
 use Rattle.times.specs.Arrays.{Fits, LaterOf}
-use Rattle.waiting.specs.Waiting.{Come, Shorter}
-use Rattle.waiting.proofs.Coming.{back-one, come-more}
+use Rattle.waiting.specs.Waiting.{ComeLater, Shorter}
+use Rattle.waiting.proofs.Coming.{back-one, come-more, come-later, come-small}
 use Rattle.waiting.proofs.Pending.{shorter-none, shorter-more}
 use native.Mathlib.Omega.{arith}
 use borrow.Author.Needs.{needs}
@@ -13,40 +14,59 @@ use Rattle.waiting.proofs.within.Statement.{statement}
 use Rattle.waiting.proofs.within.Tie as tie
 
 abbrev Inv-loop : tie.InvT-loop
-Inv-loop t pending₀ period y gap lo top best₀ at₀ e₀ pending best at e =
-    (lo ≤ e) × (e ≤ top + 1) × (length pending ≡ 256) × (at < period) × (at ≡ (y + period - (gap + e - 1)) % period) × Come period t y (gap + e - 1) best
-    × Shorter period t y gap lo e pending₀ pending
+Inv-loop t pending₀ period y gap lo top rest n best₀ at₀ e₀ pending best at e =
+    (lo ≤ e) × (e ≤ max lo (top + 1)) × (length pending ≡ 256) × (at < period) × (at ≡ (y + period - (gap + min (e - 1) top)) % period)
+    × ComeLater period t y (gap + min (e - 1) top) rest best × Shorter period t y gap rest lo e pending₀ pending
 
 abbrev μ-loop : tie.MeasureT-loop
-μ-loop t pending₀ period y gap lo top best₀ at₀ e₀ pending best at e = top + 1 - e
+μ-loop t pending₀ period y gap lo top rest n best₀ at₀ e₀ pending best at e = top + 1 - e
 
-add-come : tie.Need-add-come Inv-loop μ-loop
-add-come c = omega (arith, c .before .pre .2, c .before .pre .4, c .before .pre .5)
+sub-least : tie.Need-sub-least Inv-loop μ-loop
+sub-least c = omega (arith, c .before .pre .1)
 
-sub-come : tie.Need-sub-come Inv-loop μ-loop
-sub-come c = omega (arith, c .before .pre .1)
+least-requires : tie.Need-least-requires Inv-loop μ-loop
+least-requires c κs = search needs
+
+-- the offsets before y are no more than the period
+few : (c : tie.After-least Inv-loop μ-loop) → (let a = c .before .before .args in a .gap + c .least .result ≤ a .period)
+few c = omega (arith, c .least .ensures, c .before .before .pre .3)
+
+add-n : tie.Need-add-n Inv-loop μ-loop
+add-n c = omega (arith, few c, c .before .before .pre .4)
 
 come-requires : tie.Need-come-requires Inv-loop μ-loop
 come-requires c κs =
-    let s = c .before in
-    (s .pre .0, omega (arith, s .pre .2, s .pre .4), s .pre .5, s .pre .6, s .pre .7)
+    let s = c .before .before in
+    (s .pre .0, few c, s .pre .4, s .pre .6, s .pre .7)
 
-add-turn-back-by : tie.Need-add-turn-back-by Inv-loop μ-loop
-add-turn-back-by c = omega (arith, c .before .before .pre .2, c .before .before .pre .4, c .before .before .pre .5)
-
-sub-turn-back-by : tie.Need-sub-turn-back-by Inv-loop μ-loop
-sub-turn-back-by c = omega (arith, c .before .before .pre .1)
+later-by-requires : tie.Need-later-by-requires Inv-loop μ-loop
+later-by-requires c κs =
+    let s = c .before .before .before in (
+      omega (arith, s .pre .5),
+      (λ n. omega (arith, come-small (s .args .period) _ _ _ _ (s .pre .6) (omega (arith, s .pre .0)) (c .come .ensures) n, few (c .before), s .pre .4, s .pre .5)),
+    )
 
 turn-back-by-requires : tie.Need-turn-back-by-requires Inv-loop μ-loop
 turn-back-by-requires c κs =
-    let s = c .before .before in
-    (s .pre .0, omega (arith, s .pre .2, s .pre .4), s .pre .5)
+    let s = c .before .before .before .before in
+    (s .pre .0, few (c .before .before), s .pre .4)
 
 loop-holds : tie.Need-loop-holds Inv-loop μ-loop
 loop-holds c =
-    let s = c .before .before .before in
+    let s = c .before .before .before .before .before in
     let a = s .args in
-    (omega arith, omega (arith, s .pre .2), s .pre .8, omega (arith, c .turn-back-by .ensures, mod-lt (a .y + a .period - (a .gap + a .lo - 1)) {m = a .period} (omega (arith, s .pre .0))), c .turn-back-by .ensures, c .before .come .ensures, shorter-none _ _ _ _ _ _)
+    let least = c .before .before .before .least in
+    let is = c .turn-back-by .ensures in
+    let n : a .gap + least .result ≡ a .gap + min (a .lo - 1) (a .top) = omega (arith, least .ensures) in (
+      omega arith,
+      omega arith,
+      s .pre .8,
+      omega (arith, is, mod-lt (a .y + a .period - (a .gap + least .result)) {m = a .period} (omega (arith, s .pre .0))),
+      is ∙ ap (λ (k : ℕ). (a .y + a .period - k) % a .period) n,
+      subst (λ (k : ℕ). ComeLater (a .period) (a .t .now) (a .y) k (a .rest) (c .before .later-by .result)) n
+          (come-later _ _ _ _ _ _ _ (c .before .before .come .ensures) (c .before .later-by .ensures)),
+      shorter-none _ _ _ _ _ _ _,
+    )
 
 mul-pending : tie.Need-mul-pending Inv-loop μ-loop
 mul-pending c = omega arith
@@ -56,39 +76,54 @@ element-write-pending c = omega arith
 
 turn-back-requires : tie.Need-turn-back-requires Inv-loop μ-loop
 turn-back-requires c κs =
-    let s = c .before .before .before .before .before in
-    (c .before .loop .inv .3, s .pre .5)
+    let s = c .before .before .before .before .before .before .before in
+    (c .before .loop .inv .3, s .pre .4)
+
+-- the next offset back is one of the period
+low : (c : tie.After-turn-back Inv-loop μ-loop) → c .turn-back .result < c .before .before .before .before .before .before .before .before .args .period
+low c =
+    let s = c .before .before .before .before .before .before .before .before in
+    let l = c .before .before .loop in
+    omega (arith, c .turn-back .ensures, mod-lt (l .at + s .args .period - 1) {m = s .args .period} (omega (arith, s .pre .0)))
 
 mul-later-by : tie.Need-mul-later-by Inv-loop μ-loop
 mul-later-by c =
-    let l = c .before .before .loop in
-    let s = c .before .before .before .before .before .before in
-    let back = c .turn-back in
-    let lt : back .result < s .args .period = omega (arith, back .ensures, mod-lt (l .at + s .args .period - 1) {m = s .args .period} (omega (arith, s .pre .0))) in
-    omega (arith, lt, s .pre .5)
+    let s = c .before .before .before .before .before .before .before .before in
+    omega (arith, low c, s .pre .4)
 
 shared-slice-read-later-by : tie.Need-shared-slice-read-later-by Inv-loop μ-loop
 shared-slice-read-later-by c =
-    let l = c .before .before .before .loop in
-    let s = c .before .before .before .before .before .before .before in
-    let back = c .before .turn-back in
-    let lt : back .result < s .args .period = omega (arith, back .ensures, mod-lt (l .at + s .args .period - 1) {m = s .args .period} (omega (arith, s .pre .0))) in
-    omega (arith, lt, s .pre .7)
+    let s = c .before .before .before .before .before .before .before .before .before in
+    omega (arith, low (c .before), s .pre .7)
+
+-- so many cycles are few
+some-cycles : (c : tie.After-turn-back Inv-loop μ-loop) → (
+    let a = c .before .before .before .before .before .before .before .before .args in
+    a .gap + a .rest + c .before .before .loop .e ≤ 512
+    )
+some-cycles c =
+    let s = c .before .before .before .before .before .before .before .before in
+    omega (arith, c .before .loop-test .taken, s .pre .3, s .pre .4, s .pre .5)
 
 add-later-by : tie.Need-add-later-by Inv-loop μ-loop
-add-later-by c =
-    let s = c .before .before .before .before .before .before .before in
-    omega (arith, c .before .before .loop-test .taken, s .pre .4, s .pre .5)
+add-later-by c = omega (arith, some-cycles (c .before))
 
-later-by-requires : tie.Need-later-by-requires Inv-loop μ-loop
+add-later-by-2 : tie.Need-add-later-by-2 Inv-loop μ-loop
+add-later-by-2 c = omega (arith, some-cycles (c .before))
+
+later-by-requires-2 : tie.Need-later-by-requires-2 Inv-loop μ-loop
 unfolding Fits
-later-by-requires c κs =
-    let l = c .before .before .before .loop in
-    let s = c .before .before .before .before .before .before .before in
-    let back = c .before .turn-back in
-    let lt : back .result < s .args .period = omega (arith, back .ensures, mod-lt (l .at + s .args .period - 1) {m = s .args .period} (omega (arith, s .pre .0))) in
-    let last = c .before .before .loop-test .taken in
-    (omega (arith, last, s .pre .4, s .pre .5), (λ n. omega (arith, s .pre .6 (back .result) lt n, last, s .pre .4, s .pre .5)))
+later-by-requires-2 c κs =
+    let s = c .before .before .before .before .before .before .before .before .before in
+    let few = some-cycles (c .before) in
+    (omega (arith, few), (λ n. omega (arith, s .pre .6 (c .before .turn-back .result) (low (c .before)) n, few)))
+
+-- the time at the next offset back is moved on to y, and by `rest`
+moved : (c : tie.After-later-by2 Inv-loop μ-loop) → (
+    let a = c .before .before .before .before .before .before .before .before .before .before .args in
+    LaterOf (getD (a .t .now) (c .before .before .turn-back .result) 0) (a .gap + c .before .before .before .before .loop .e + a .rest) (c .later-by2 .result))
+moved c =
+    subst (λ (k : ℕ). LaterOf (getD (c .before .before .before .before .before .before .before .before .before .before .args .t .now) (c .before .before .turn-back .result) 0) k (c .later-by2 .result)) (omega arith) (c .later-by2 .ensures)
 
 longer-of-requires : tie.Need-longer-of-requires Inv-loop μ-loop
 longer-of-requires c κs = search needs
@@ -101,35 +136,37 @@ loop-less c = omega arith
 
 loop-again : tie.Need-loop-again Inv-loop μ-loop
 loop-again c =
-    let l = c .before .before .before .before .before .loop in
-    let s = c .before .before .before .before .before .before .before .before .before in
-    let back = c .before .before .before .turn-back in
-    let lt : back .result < s .args .period = omega (arith, back .ensures, mod-lt (l .at + s .args .period - 1) {m = s .args .period} (omega (arith, s .pre .0))) in
+    let s = c .before .before .before .before .before .before .before .before .before .before .before in
     let a = s .args in
+    let l = c .before .before .before .before .before .loop in
     let last = c .before .before .before .before .loop-test .taken in
-    let more : a .gap + (l .e + 1) - 1 ≡ a .gap + l .e - 1 + 1 = omega (arith, l .inv .0, s .pre .1) in
-    let same : a .gap + l .e ≡ a .gap + (l .e + 1) - 1 = omega arith in
-    let place : back .result ≡ (a .y + a .period - (a .gap + (l .e + 1) - 1)) % a .period =
-    back-one (a .period) (a .y) (a .gap + l .e - 1) (l .at) (back .result) (omega (arith, last, s .pre .4, l .inv .0, s .pre .1)) (l .inv .4) (back .ensures)
+    let back = c .before .before .before .turn-back in
+    let w = a .gap + min (l .e - 1) (a .top) in
+    let w' = a .gap + min (l .e + 1 - 1) (a .top) in
+    let more : w' ≡ w + 1 = omega (arith, l .inv .0, s .pre .1, last) in
+    let same : w ≡ a .gap + l .e - 1 = omega (arith, l .inv .0, s .pre .1, last) in
+    let place : back .result ≡ (a .y + a .period - w') % a .period =
+    back-one (a .period) (a .y) w (l .at) (back .result) (omega (arith, last, s .pre .3, same, l .inv .0, s .pre .1)) (l .inv .4) (back .ensures)
     ∙ ap (λ (k : ℕ). (a .y + a .period - k) % a .period) (sym more) in (
       omega (arith, l .inv .0),
       omega (arith, last),
       simp length-set (omega (arith, l .inv .2)),
-      lt,
+      low (c .before .before .before),
       place,
-      come-more (a .period) _ (a .y) (a .gap + l .e - 1) (a .gap + (l .e + 1) - 1) (back .result) _ _ _ (omega (arith, s .pre .0)) more place (subst (λ (k : ℕ). LaterOf (getD (a .t .now) (back .result) 0) k (c .before .later-by .result)) same (c .before .later-by .ensures)) (c .longer-of .ensures) (l .inv .5),
-      shorter-more _ _ _ _ _ _ _ _ _ (omega (arith, l .inv .2, last, s .pre .3)) (l .inv .5) (l .inv .6),
+      come-more (a .period) _ (a .y) w w' (a .rest) (back .result) _ _ _ _ (omega (arith, s .pre .0)) more place (omega (arith, last)) (moved (c .before)) (c .longer-of .ensures) (l .inv .5),
+      shorter-more _ _ _ _ _ _ _ _ _ _ (omega (arith, l .inv .2, last, s .pre .2))
+          (subst (λ (k : ℕ). ComeLater (a .period) (a .t .now) (a .y) k (a .rest) (l .best)) same (l .inv .5)) (l .inv .6),
     )
 
 returns : tie.Need-returns Inv-loop μ-loop
 returns c =
-    let a = c .before .before .before .before .before .args in
+    let a = c .before .before .before .before .before .before .before .args in
     let l = c .before .loop in
-    let z : l .e ≡ a .top + 1 = omega (arith, l .inv .1, c .loop-test .left) in
-    let w : a .gap + l .e - 1 ≡ a .gap + a .top = omega arith in (
-      subst (λ (n : ℕ). Come (a .period) (a .t .now) (a .y) n (l .best)) w (l .inv .5),
+    let z : l .e ≡ max (a .lo) (a .top + 1) = omega (arith, l .inv .0, l .inv .1, c .loop-test .left) in
+    let w : a .gap + min (l .e - 1) (a .top) ≡ a .gap + a .top = omega (arith, z) in (
+      subst (λ (n : ℕ). ComeLater (a .period) (a .t .now) (a .y) n (a .rest) (l .best)) w (l .inv .5),
       l .inv .2,
-      subst (λ (e : ℕ). Shorter (a .period) (a .t .now) (a .y) (a .gap) (a .lo) e (a .pending .now) (l .pending)) z (l .inv .6),
+      subst (λ (e : ℕ). Shorter (a .period) (a .t .now) (a .y) (a .gap) (a .rest) (a .lo) e (a .pending .now) (l .pending)) z (l .inv .6),
     )
 
 pub within-spec : {M : Type 1} → statement M
@@ -138,11 +175,11 @@ within-spec =
     (tie.spec
     Inv-loop
     μ-loop
-    add-come
-    sub-come
+    sub-least
+    least-requires
+    add-n
     come-requires
-    add-turn-back-by
-    sub-turn-back-by
+    later-by-requires
     turn-back-by-requires
     loop-holds
     mul-pending
@@ -151,7 +188,8 @@ within-spec =
     mul-later-by
     shared-slice-read-later-by
     add-later-by
-    later-by-requires
+    add-later-by-2
+    later-by-requires-2
     longer-of-requires
     add-e
     loop-less
