@@ -1,19 +1,20 @@
 -- The longest time with which an entry comes to an offset, from so many offsets before it.
 use mathlib.Core.Path.{_≡_, refl, sym, _∙_, ap}
-use mathlib.Core.Logic.{inl, inr}
+use mathlib.Core.Logic.{_⊎_, inl, inr}
 use mathlib.Core.Option.{none, some}
 use mathlib.Core.List.{List}
 use lib.ListN.{getD}
 use native.Mathlib.Omega.{arith}
 use native.Mathlib.Nat.{mod-lt, mod-eq-of-lt, add-mod-right, mod-add-mod}
-use Prim.Native.Nat.{ℕ, _+_, _-_, _%_, _≤_, _<_}
-use Rattle.runs.specs.Figures.{Time}
+use Prim.Native.Nat.{ℕ, _+_, _-_, _%_, _≤_, _<_, max}
+use Rattle.runs.specs.Figures.{Time, later, longer}
 use Rattle.runs.proofs.Cases.{split}
 use Rattle.runs.proofs.TimesExact.{longest-same, longest-some, times-mean}
-use Rattle.times.specs.Arrays.{noTime, timeOf, tableOf, Fits, LongerOf, LaterOf}
+use Rattle.times.specs.Arrays.{noTime, timeOf, tableOf, Fits, LongerOf}
 use Rattle.times.proofs.Tables.{time-some, time-inv, tableOf-at}
 use Rattle.times.proofs.Ends.{self}
-use Rattle.waiting.specs.Waiting.{Reach, Come, ComeLater}
+use Rattle.waiting.specs.Waiting.{Reach, Comes, Come, Later, keptTime, ComeLater}
+use Rattle.waiting.proofs.Keeping.{kept-max}
 
 module _ (P y n : ℕ) (low : y < P) where
   -- i cycles before y, within the period and round it
@@ -59,13 +60,12 @@ back-one P y w at at' l e f =
     let b : y + P - w + (P - 1) ≡ (y + P - (w + 1)) + P = omega arith in
     f ∙ ap (λ (k : ℕ). k % P) a ∙ ap (λ (k : ℕ). (k + (P - 1)) % P) e ∙ mod-add-mod (y + P - w) P (P - 1) ∙ ap (λ (k : ℕ). k % P) b ∙ add-mod-right (y + P - (w + 1)) P
 
-pub come-more : (P : ℕ) (t : List ℕ) (y w w' rest at d v best best' : ℕ) → 0 < P → w' ≡ w + 1 → at ≡ (y + P - w') % P → d ≡ w' + rest → LaterOf (getD t at 0) d v
-    → LongerOf best v best' → ComeLater P t y w rest best → ComeLater P t y w' rest best'
-unfolding LongerOf LaterOf
+pub come-more : (P : ℕ) (t : List ℕ) (y w w' rest at d v best best' : ℕ) → 0 < P → w' ≡ w + 1 → at ≡ (y + P - w') % P → d ≡ w' + rest → keptTime v ≡ later d (timeOf (getD t at 0))
+    → best' ≡ max best v → ComeLater P t y w rest best → ComeLater P t y w' rest best'
 come-more P t y w w' rest at d v best best' pos ew ea ed k f h =
     let lt : at < P = omega (arith, ea, mod-lt (y + P - w') pos) in
-    rw (f, k)
-    (longest-same _ _ _
+    rw (kept-max best v best' f, k)
+    (longest-same (λ n. Later rest (Comes P (tableOf P t) y w) n ⊎ ((c : ℕ) × (timeOf (getD t at 0) ≡ some c) × (n ≡ c + d))) _ _
     (λ c. elim [
       | inl (m, (i, l, x), z) ↦ (m, (i, omega arith, x), z)
       | inr (c₀, g, x) ↦ (c₀ + w', (w', omega arith, (c₀, ap (λ (j : ℕ). getD (tableOf P t) j none) (sym ea) ∙ tableOf-at P t at lt ∙ g, refl)), omega arith)
@@ -78,8 +78,7 @@ come-more P t y w w' rest at d v best best' pos ew ea ed k f h =
     (times-mean .is-join _ _ _ _ h (times-mean .is-later _ d _ (self (timeOf (getD t at 0))))))
 
 -- what has come, some cycles later
-pub come-later : (P : ℕ) (t : List ℕ) (y w rest r v : ℕ) → Come P t y w r → LaterOf r rest v → ComeLater P t y w rest v
-unfolding LaterOf
+pub come-later : (P : ℕ) (t : List ℕ) (y w rest r v : ℕ) → Come P t y w r → keptTime v ≡ later rest (timeOf r) → ComeLater P t y w rest v
 come-later P t y w rest r v h k = rw k (times-mean .is-later _ rest _ h)
 
 -- the times that come are far below 2^64

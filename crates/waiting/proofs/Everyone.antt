@@ -18,7 +18,7 @@ use Rattle.runs.proofs.Forward as forward
 use Rattle.runs.proofs.TimesExact.{longest-same, longest-some, times-mean}
 use Rattle.times.specs.Arrays.{timeOf, tableOf, Fits}
 use Rattle.times.proofs.Ends.{self, left-means}
-use Rattle.waiting.specs.Waiting.{Comes, Later, ComeLater, Pends, LeavesOf, LeftOf, LeftAll, among, Shorter, WaitsOn, Pended, LeftBy}
+use Rattle.waiting.specs.Waiting.{Comes, Later, keptTime, ComeLater, Pends, LeavesOf, LeftOf, LeftAll, among, Shorter, WaitsOn, Pended, LeftBy}
 use Rattle.waiting.proofs.Coming.{entry-small}
 use Rattle.waiting.proofs.Pending.{among-both, among-room, among-on}
 
@@ -27,7 +27,7 @@ use Rattle.waiting.proofs.Pending.{among-both, among-room, among-on}
 -- run and p have what waits for a stretch of len cycles that begins at x, with each duration that it has no room for: n cycles later
 abbrev pub Waiting : (P : ℕ) (own : ℕ → Bool) (t : List ℕ) (x w len n lo hi run : ℕ) (p : List ℕ) → Type 0
 Waiting P own t x w len n lo hi run p =
-    (e : ℕ) → lo ≤ e → e ≤ hi → len < e → Longest (Later n (Pends P own (tableOf P t) x w e)) (longer (timeOf run) (among p (max lo (len + 1)) (e + 1)))
+    (e : ℕ) → lo ≤ e → e ≤ hi → len < e → Longest (Later n (Pends P own (tableOf P t) x w e)) (longer (keptTime run) (among p (max lo (len + 1)) (e + 1)))
 
 module _ (P : ℕ) (own : ℕ → Bool) (t : List ℕ) (x len gap y : ℕ) (c : NextStretch P own x len gap y) (w : ℕ) (fits : w + (len + gap) ≤ P) where
   -- with a duration that it has room for, those that come from so near wait
@@ -41,7 +41,7 @@ module _ (P : ℕ) (own : ℕ → Bool) (t : List ℕ) (x len gap y : ℕ) (c : 
 
   -- with a longer one, all that come since, and those that waited for it
   pends-no-room : (e n n' best : ℕ) (v : Time) → 1 ≤ e → len < e → n ≡ n' + (len + gap) → ComeLater P t y (gap + len) n' best
-      → Longest (Later n (Pends P own (tableOf P t) x w e)) v → Longest (Later n' (Pends P own (tableOf P t) y (w + (len + gap)) e)) (longer (timeOf best) v)
+      → Longest (Later n (Pends P own (tableOf P t) x w e)) v → Longest (Later n' (Pends P own (tableOf P t) y (w + (len + gap)) e)) (longer (keptTime best) v)
   pends-no-room e n n' best v pos lt en h k =
       longest-same (λ j. Later n' (Comes P (tableOf P t) y (gap + len)) j ⊎ Later n (Pends P own (tableOf P t) x w e) j) _ _
       (λ j. elim [
@@ -80,14 +80,14 @@ module _ (P : ℕ) (own : ℕ → Bool) (t : List ℕ) (x len gap y : ℕ) (c : 
       let same : top ≡ len = omega arith in
       rw (among-on P t y gap n' lo top over hi run best p q r (omega arith) (omega arith) short on (omega arith) h e (omega arith) b)
       (pends-no-room e n n' best _ (omega arith) l en (subst (λ (k : ℕ). ComeLater P t y (gap + k) n' best) same h)
-      (subst (λ (k : ℕ). Longest (Later n (Pends P own (tableOf P t) x w e)) (longer (timeOf run) (among p k (e + 1)))) (sym is-over) (before e a b l))))
+      (subst (λ (k : ℕ). Longest (Later n (Pends P own (tableOf P t) x w e)) (longer (keptTime run) (among p k (e + 1)))) (sym is-over) (before e a b l))))
 
 -- what is pending for the durations that a stretch has room for waits on with the longer ones
-pub waits-still : (P : ℕ) (own : ℕ → Bool) (t : List ℕ) (x w len n lo hi top run : ℕ) (p : List ℕ) → top ≡ min hi len → timeOf run ≡ among p lo (max lo (top + 1))
+pub waits-still : (P : ℕ) (own : ℕ → Bool) (t : List ℕ) (x w len n lo hi top run : ℕ) (p : List ℕ) → top ≡ min hi len → keptTime run ≡ among p lo (max lo (top + 1))
     → ((e : ℕ) → lo ≤ e → e ≤ hi → Longest (Later n (Pends P own (tableOf P t) x w e)) (among p lo (e + 1))) → Waiting P own t x w len n lo hi run p
 waits-still P own t x w len n lo hi top run p is-top is-run means e a b l =
     let same : top ≡ len = omega arith in
-    let whole : longer (timeOf run) (among p (max lo (len + 1)) (e + 1)) ≡ among p lo (e + 1) =
+    let whole : longer (keptTime run) (among p (max lo (len + 1)) (e + 1)) ≡ among p lo (e + 1) =
     ap (λ (u : Time). longer u (among p (max lo (len + 1)) (e + 1))) (is-run ∙ ap (λ (k : ℕ). among p lo (max lo (k + 1))) same)
     ∙ among-both p lo (max lo (len + 1)) (e + 1) (omega arith) (omega arith) in
     rw whole (means e a b)

@@ -1,4 +1,5 @@
 mod Reaching
+mod Keeping
 mod Coming
 mod Pending
 mod Everyone

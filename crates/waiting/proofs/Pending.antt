@@ -14,13 +14,14 @@ use Rattle.runs.proofs.Cases.{split}
 use Rattle.runs.proofs.Meanings.{is-below}
 use Rattle.runs.proofs.TimesExact.{longest-same, longest-one, times-mean}
 use Rattle.times.specs.Arrays.{noTime, timeOf, tableOf, LongerOf}
-use Rattle.times.proofs.Tables.{time-none, time-some, time-inv}
+use Rattle.times.proofs.Tables.{time-none, time-some}
 use Rattle.times.proofs.Ends.{self}
-use Rattle.waiting.specs.Waiting.{Comes, Later, ComeLater, among, Shorter, WaitsOn, Ended, LeftBy}
+use Rattle.waiting.specs.Waiting.{Comes, Later, keptTime, ComeLater, among, Shorter, WaitsOn, Ended, LeftBy}
+use Rattle.waiting.proofs.Keeping.{kept-none, kept-some, kept-inv, kept-max}
 
 -- ---- the longest of some durations' times
 
-pub among-means : (p : List ℕ) (lo e : ℕ) (X : ℕ → ℕ → Type 0) → ((d : ℕ) → lo ≤ d → d < e → Longest (X d) (timeOf (getD p d 0)))
+pub among-means : (p : List ℕ) (lo e : ℕ) (X : ℕ → ℕ → Type 0) → ((d : ℕ) → lo ≤ d → d < e → Longest (X d) (keptTime (getD p d 0)))
     → Longest (λ c. (d : ℕ) × (lo ≤ d) × (d < e) × X d c) (among p lo e)
 unfolding among
 among-means p lo e X h =
@@ -30,11 +31,11 @@ among-means p lo e X h =
     (is-below 0 none longer later Longest times-mean (e - lo) (λ i l. h (lo + i) (omega arith) (omega arith)))
 
 -- its own times
-among-self : (p : List ℕ) (lo e : ℕ) → Longest (λ c. (d : ℕ) × (lo ≤ d) × (d < e) × (timeOf (getD p d 0) ≡ some c)) (among p lo e)
-among-self p lo e = among-means p lo e (λ d c. timeOf (getD p d 0) ≡ some c) (λ d l m. self (timeOf (getD p d 0)))
+among-self : (p : List ℕ) (lo e : ℕ) → Longest (λ c. (d : ℕ) × (lo ≤ d) × (d < e) × (keptTime (getD p d 0) ≡ some c)) (among p lo e)
+among-self p lo e = among-means p lo e (λ d c. keptTime (getD p d 0) ≡ some c) (λ d l m. self (keptTime (getD p d 0)))
 
-pub among-none : (p : List ℕ) (lo r : ℕ) → r ≡ noTime → timeOf r ≡ among p lo lo
-among-none p lo r e = time-none r e ∙ longest-one (nothing (λ c (d, l, m, x). omega arith)) (among-self p lo lo)
+pub among-none : (p : List ℕ) (lo : ℕ) → keptTime 0 ≡ among p lo lo
+among-none p lo = kept-none ∙ longest-one (nothing (λ c (d, l, m, x). omega arith)) (among-self p lo lo)
 
 -- up to a duration, and from there on
 pub among-both : (p : List ℕ) (lo m e : ℕ) → lo ≤ m → m ≤ e → longer (among p lo m) (among p m e) ≡ among p lo e
@@ -46,16 +47,15 @@ among-both p lo m e l k =
     (times-mean .is-join _ _ _ _ (among-self p lo m) (among-self p m e)))
     (among-self p lo e)
 
-pub among-more : (p : List ℕ) (lo e run r : ℕ) → lo ≤ e → timeOf run ≡ among p lo e → LongerOf run (getD p e 0) r → timeOf r ≡ among p lo (e + 1)
-unfolding LongerOf
+pub among-more : (p : List ℕ) (lo e run r : ℕ) → lo ≤ e → keptTime run ≡ among p lo e → r ≡ max run (getD p e 0) → keptTime r ≡ among p lo (e + 1)
 among-more p lo e run r l h k =
-    let one : timeOf (getD p e 0) ≡ among p e (e + 1) =
-    longest-one (self (timeOf (getD p e 0)))
+    let one : keptTime (getD p e 0) ≡ among p e (e + 1) =
+    longest-one (self (keptTime (getD p e 0)))
     (longest-same _ _ _
-    (λ c (d, i, j, x). let z : d ≡ e = omega arith in subst (λ (k : ℕ). timeOf (getD p k 0) ≡ some c) z x)
+    (λ c (d, i, j, x). let z : d ≡ e = omega arith in subst (λ (k : ℕ). keptTime (getD p k 0) ≡ some c) z x)
     (λ c x. (e, omega arith, omega arith, x))
     (among-self p e (e + 1))) in
-    k ∙ ap (λ (u : Time). longer u (timeOf (getD p e 0))) h ∙ ap (longer (among p lo e)) one ∙ among-both p lo e (e + 1) l (omega arith)
+    kept-max run (getD p e 0) r k ∙ ap (λ (u : Time). longer u (keptTime (getD p e 0))) h ∙ ap (longer (among p lo e)) one ∙ among-both p lo e (e + 1) l (omega arith)
 
 -- ---- durations that the stretch has room for
 
@@ -92,9 +92,9 @@ module _ (P : ℕ) (t : List ℕ) (y gap rest lo top over hi run best : ℕ) (p 
   abbrev Kept : ℕ → ℕ → Type 0
   Kept d c =
       ((d ≤ top) × Later rest (Comes P (tableOf P t) y (gap + d - 1)) c)
-      ⊎ (((d ≡ over) × ((timeOf run ≡ some c) ⊎ Later rest (Comes P (tableOf P t) y (gap + top)) c)) ⊎ ((over ≤ d) × (timeOf (getD p d 0) ≡ some c)))
+      ⊎ (((d ≡ over) × ((keptTime run ≡ some c) ⊎ Later rest (Comes P (tableOf P t) y (gap + top)) c)) ⊎ ((over ≤ d) × (keptTime (getD p d 0) ≡ some c)))
 
-  kept : over ≤ max lo (top + 1) → ComeLater P t y (gap + top) rest best → (d : ℕ) → lo ≤ d → d ≤ hi → Longest (Kept d) (timeOf (getD r d 0))
+  kept : over ≤ max lo (top + 1) → ComeLater P t y (gap + top) rest best → (d : ℕ) → lo ≤ d → d ≤ hi → Longest (Kept d) (keptTime (getD r d 0))
   kept first h d l m =
       split d top
       (λ a.
@@ -106,24 +106,24 @@ module _ (P : ℕ) (t : List ℕ) (y gap rest lo top over hi run best : ℕ) (p 
       let same : getD q d 0 ≡ getD p d 0 = short .above d (omega arith) in
       elim (ℕ-discrete d over) [
         | yes z ↦
-            (let is : timeOf (getD r d 0) ≡ longer (timeOf (getD p d 0)) (longer (timeOf run) (timeOf best)) =
-            ap (λ (k : ℕ). timeOf (getD r k 0)) z ∙ on .joins (omega arith) ∙ ap (λ (k : ℕ). longer (timeOf k) (longer (timeOf run) (timeOf best))) (ap (λ (k : ℕ). getD q k 0) (sym z) ∙ same) in
+            (let is : keptTime (getD r d 0) ≡ longer (keptTime (getD p d 0)) (longer (keptTime run) (keptTime best)) =
+            ap (λ (k : ℕ). keptTime (getD r k 0)) z ∙ on .joins (omega arith) ∙ ap (λ (k : ℕ). longer (keptTime k) (longer (keptTime run) (keptTime best))) (ap (λ (k : ℕ). getD q k 0) (sym z) ∙ same) in
             rw is
             (longest-same _ (λ c. Kept d c) _
             (λ c. elim [ inl x ↦ inr (inr (omega arith, x)) | inr x ↦ inr (inl (z, x)) ])
             (λ c. elim [ inl x ↦ absurd (omega (arith, x .0)) | inr u ↦ elim u [ inl x ↦ inr (x .1) | inr x ↦ inl (x .1) ] ])
-            (times-mean .is-join _ _ _ _ (self (timeOf (getD p d 0))) (times-mean .is-join _ _ _ _ (self (timeOf run)) h))))
+            (times-mean .is-join _ _ _ _ (self (keptTime (getD p d 0))) (times-mean .is-join _ _ _ _ (self (keptTime run)) h))))
         | no z ↦
             rw (on .others d z, same)
             (longest-same _ (λ c. Kept d c) _
             (λ c x. inr (inr (omega arith, x)))
             (λ c. elim [ inl x ↦ absurd (omega (arith, x .0)) | inr u ↦ elim u [ inl x ↦ absurd (z (x .0)) | inr x ↦ x .1 ] ])
-            (self (timeOf (getD p d 0))))
+            (self (keptTime (getD p d 0))))
       ])
 
   -- the longest of what has come since and of what waited before
   pub among-on : over ≤ max lo (top + 1) → ComeLater P t y (gap + top) rest best → (e : ℕ) → over ≤ e → e ≤ hi
-      → among r lo (e + 1) ≡ longer (timeOf best) (longer (timeOf run) (among p over (e + 1)))
+      → among r lo (e + 1) ≡ longer (keptTime best) (longer (keptTime run) (among p over (e + 1)))
   among-on first h e l m =
       longest-one
       (longest-same _ _ _
@@ -136,34 +136,31 @@ module _ (P : ℕ) (t : List ℕ) (y gap rest lo top over hi run best : ℕ) (p 
         | inr u ↦ elim u [ inl g ↦ (over, omega arith, omega arith, inr (inl (refl, inl g))) | inr (d, i, j, x) ↦ (d, omega arith, j, inr (inr (i, x))) ]
       ])
       (among-means r lo (e + 1) Kept (λ d i j. kept first h d i (omega arith))))
-      (times-mean .is-join _ _ _ _ h (times-mean .is-join _ _ _ _ (self (timeOf run)) (among-self p over (e + 1))))
+      (times-mean .is-join _ _ _ _ h (times-mean .is-join _ _ _ _ (self (keptTime run)) (among-self p over (e + 1))))
 
 -- that is written at one duration
-pub waits-on : (over hi run best v r : ℕ) (p : List ℕ) → over < length p → LongerOf run best v → LongerOf (getD p over 0) v r → WaitsOn over hi run best p (set p over r)
-unfolding LongerOf
+pub waits-on : (over hi run best v r : ℕ) (p : List ℕ) → over < length p → v ≡ max run best → r ≡ max (getD p over 0) v → WaitsOn over hi run best p (set p over r)
 waits-on over hi run best v r p long h k = record {
-  joins = λ l. ap timeOf (getD-set-same p over r 0 long) ∙ k ∙ ap (longer (timeOf (getD p over 0))) h;
+  joins = λ l. ap keptTime (getD-set-same p over r 0 long) ∙ kept-max (getD p over 0) v r k ∙ ap (longer (keptTime (getD p over 0))) (kept-max run best v h);
   others = λ e n. getD-set-other p over e r 0 n;
 }
 
 -- ---- what leaves
 
-pub ended-none : (v rest e : ℕ) → v ≡ noTime → Ended v rest e v
-ended-none v rest e z =
-    subst (Longest _) (sym (time-none v z))
-    (nothing (λ c (k, x, y). time-inv v k x .1 z))
+pub ended-none : (v rest e r : ℕ) → v ≡ 0 → r ≡ noTime → Ended v rest e r
+ended-none v rest e r z n = subst (Longest _) (sym (time-none r n)) (nothing (λ c (k, x, y). omega (arith, kept-inv v k x)))
 
-pub ended-some : (v rest e r : ℕ) → ¬ (v ≡ noTime) → r + rest ≡ v + e → ¬ (r ≡ noTime) → Ended v rest e r
+pub ended-some : (v rest e r : ℕ) → 0 < v → r + rest + 1 ≡ v + e → ¬ (r ≡ noTime) → Ended v rest e r
 ended-some v rest e r n z m =
     subst (Longest _) (sym (time-some r m))
-    (reached (v, time-some v n, z) (λ c (k, x, y). omega (arith, time-inv v k x .0)))
+    (reached (v - 1, kept-some v n, omega arith) (λ c (k, x, y). omega (arith, kept-inv v k x)))
 
 pub left-none : (P : ℕ) (p : List ℕ) (a rest lo : ℕ) (o : List ℕ) → LeftBy P p a rest lo lo o o
 unfolding LeftBy
 left-none P p a rest lo o q l =
     longest-same _ _ _ (λ c x. inl x) (λ c. elim [ inl x ↦ x | inr (e, i, j, g, x) ↦ absurd (omega arith) ]) (self (timeOf (getD o q 0)))
 
-pub left-more : (P : ℕ) (p : List ℕ) (a rest lo e at run v y : ℕ) (o r : List ℕ) → lo ≤ e → at ≡ (a + e) % P → at < length r → timeOf run ≡ among p lo (e + 1)
+pub left-more : (P : ℕ) (p : List ℕ) (a rest lo e at run v y : ℕ) (o r : List ℕ) → lo ≤ e → at ≡ (a + e) % P → at < length r → keptTime run ≡ among p lo (e + 1)
     → Ended run rest e v → LongerOf (getD r at 0) v y → LeftBy P p a rest lo e o r → LeftBy P p a rest lo (e + 1) o (set r at y)
 unfolding LeftBy LongerOf
 left-more P p a rest lo e at run v y o r le ea long is-run k j left q l =

@@ -6,7 +6,7 @@ use mathlib.Core.Option.{none, some}
 use mathlib.Core.List.{List}
 use mathlib.Core.Bool.{Bool, true}
 use lib.ListN.{getD}
-use Prim.Native.Nat.{ℕ, _+_, _-_, _%_, _≤_, _<_}
+use Prim.Native.Nat.{ℕ, zero, suc, _+_, _-_, _%_, _≤_, _<_}
 use Rattle.runs.specs.Carried.{joinBelow}
 use Rattle.runs.specs.Figures.{Time, longer}
 use Rattle.runs.specs.Demand3.{Longest}
@@ -33,9 +33,14 @@ Come P t a w r = Longest (Comes P (tableOf P t) a w) (timeOf r)
 abbrev pub Later : ℕ → (ℕ → Type 0) → ℕ → Type 0
 Later n C c' = (c : ℕ) × C c × (c' ≡ c + n)
 
--- r is the longest of what comes, n cycles later
+-- the time that is kept as a number: one less, or none for 0
+unfoldable pub keptTime : ℕ → Time
+keptTime zero = none
+keptTime (suc t) = some t
+
+-- the longest of what comes, n cycles later, is kept as r
 abbrev pub ComeLater : ℕ → List ℕ → ℕ → ℕ → ℕ → ℕ → Type 0
-ComeLater P t a w n r = Longest (Later n (Comes P (tableOf P t) a w)) (timeOf r)
+ComeLater P t a w n r = Longest (Later n (Comes P (tableOf P t) a w)) (keptTime r)
 
 module _ (P : ℕ) (own : ℕ → Bool) (T : List Time) where
   -- c is a count with which an entry that is at most w cycles before a, and waits for it with an access of e cycles, comes there
@@ -66,10 +71,10 @@ LeftAll P own t lo hi o r =
 
 -- ---- what is pending for each duration
 
--- the longest time of p for the durations from lo to below e
+-- the longest time that is kept in p for the durations from lo to below e
 unfoldable pub among : List ℕ → ℕ → ℕ → Time
-unfolding joinBelow longer timeOf
-among p lo e = joinBelow none longer (e - lo) (λ i. timeOf (getD p (lo + i) 0))
+unfolding joinBelow longer keptTime
+among p lo e = joinBelow none longer (e - lo) (λ i. keptTime (getD p (lo + i) 0))
 
 -- these times are at least `rest` and far below 2^64, up to each of the durations from lo to hi
 abbrev pub Small : List ℕ → ℕ → ℕ → ℕ → Type 0
@@ -83,12 +88,12 @@ pub record Shorter (P : ℕ) (t : List ℕ) (y gap rest lo top : ℕ) (p p' : Li
 
 -- for the duration `over`, if it is none beyond hi, p' has the longest of p's time, run and best; for others p' is p
 pub record WaitsOn (over hi run best : ℕ) (p p' : List ℕ) : Type 0 where
-  pub joins : over ≤ hi → timeOf (getD p' over 0) ≡ longer (timeOf (getD p over 0)) (longer (timeOf run) (timeOf best))
+  pub joins : over ≤ hi → keptTime (getD p' over 0) ≡ longer (keptTime (getD p over 0)) (longer (keptTime run) (keptTime best))
   pub others : (e : ℕ) → ¬ (e ≡ over) → getD p' e 0 ≡ getD p e 0
 
--- r is the time v less `rest` cycles and e more
+-- r is the time that is kept as v, less `rest` cycles and e more
 abbrev pub Ended : ℕ → ℕ → ℕ → ℕ → Type 0
-Ended v rest e r = Longest (λ c'. (c : ℕ) × (timeOf v ≡ some c) × (c' + rest ≡ c + e)) (timeOf r)
+Ended v rest e r = Longest (λ c'. (c : ℕ) × (keptTime v ≡ some c) × (c' + rest ≡ c + e)) (timeOf r)
 
 -- c' is a count with which what is pending for one of the durations from lo to below top ends at q
 abbrev pub Pended : ℕ → List ℕ → ℕ → ℕ → ℕ → ℕ → ℕ → ℕ → Type 0

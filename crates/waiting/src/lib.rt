@@ -1,17 +1,19 @@
 // waiting: the entries of a table that wait for an access (document 01, "The bus and a run"), on any bus. Each waits for a stretch of offsets that the
 // core owns, and starts where that begins. Going once round the period from stretch to stretch, an access that a stretch has room for starts there, or
 // within it, and one that it has no room for waits on. What waits with a duration is the longest time kept for it and for the shorter ones, each as it
-// would be at the end of the round: so what waits on past a stretch is written at one duration only.
+// would be at the end of the round: so what waits on past a stretch is written at one duration only. A time is kept as one more, and none as 0: the
+// longest of such numbers is the largest.
 //
 // Promise: `arrive_all` joins to a table the entries that wait, or stand where a stretch begins, for each duration that the stretch has room for
 // (`LeftAll`).
 // Definitions: specs/Waiting.antt, over crates/runs/specs/Stretches.antt.
 ghost use mathlib.Core.Path.{_≡_};
 ghost use lib.ListN.{length};
+ghost use Rattle.runs.specs.Figures.{later as laterBy};
 ghost use Prim.Native.Nat.{_+_, _-_, _<_, _≤_, max};
 ghost use Rattle.bus.specs.Owning.{owns, Fit};
 ghost use Rattle.times.specs.Arrays.{noTime, timeOf, Fits};
-ghost use Rattle.waiting.specs.Waiting.{Reach, Come, ComeLater, Shorter, WaitsOn, among, Small, Ended, LeftBy, LeftAll};
+ghost use Rattle.waiting.specs.Waiting.{Reach, Come, ComeLater, Shorter, WaitsOn, keptTime, among, Small, Ended, LeftBy, LeftAll};
 use bus::Bus;
 
 // The longest time of the entries from `from` to below `to`, each `base - o` cycles later.
@@ -42,6 +44,18 @@ fn come(t: &[u64], period: usize, y: usize, n: usize) -> u64
     times::longer_of(x, z)
 }
 
+// The time t, d cycles later, as it is kept.
+fn kept(t: u64, d: usize) -> u64
+    requires { ⌜ (d ≤ 512) × (¬ (t ≡ noTime) → t ≤ 1152921504606846976 + 512) ⌝ }
+    ensures { λ r. ⌜ keptTime r ≡ laterBy d (timeOf t) ⌝ }
+{
+    if t == 0xffff_ffff_ffff_ffff {
+        0
+    } else {
+        t + d as u64 + 1
+    }
+}
+
 // What waits for y with each duration from lo to top, which the stretch before it has room for: `gap` offsets before y are not owned, and then all but
 // one of as many as the duration has. The answer is the longest time with top of them, also where top is below lo. Each time is `rest` cycles later.
 fn within(
@@ -58,13 +72,13 @@ fn within(
     ensures { λ r. ⌜ ComeLater period (now (t .entry)) y (gap + top) rest r × (length (now (pending .exit)) ≡ 256) × Shorter period (now (t .entry)) y gap rest lo (max lo (top + 1)) (now (pending .entry)) (now (pending .exit)) ⌝ }
 {
     let n = gap + times::least(lo - 1, top);
-    let mut best = times::later_by(come(t, period, y, n), rest);
+    let mut best = kept(come(t, period, y, n), rest);
     let mut at = bus::turn_back_by(y, n, period);
     let mut e = lo;
     while e <= top {
         pending[e] = best;
         at = bus::turn_back(at, period);
-        best = times::longer_of(best, times::later_by(t[at], gap + rest + e));
+        best = times::larger(best, kept(t[at], gap + rest + e));
         e += 1;
     }
     best
@@ -85,19 +99,19 @@ fn wait_on(pending: &mut [u64; 256], over: usize, hi: usize, run: u64, best: u64
     ensures { λ _. ⌜ (length (now (pending .exit)) ≡ 256) × WaitsOn over hi run best (now (pending .entry)) (now (pending .exit)) ⌝ }
 {
     if over <= hi {
-        pending[over] = times::longer_of(pending[over], times::longer_of(run, best));
+        pending[over] = times::larger(pending[over], times::larger(run, best));
     }
 }
 
-// When an access of e cycles ends that starts `rest` cycles before v, or none.
+// When an access of e cycles ends that starts `rest` cycles before the time that is kept as v, or none.
 fn ended(v: u64, rest: usize, e: usize) -> u64
-    requires { ⌜ (e ≤ 255) × (¬ (v ≡ noTime) → (rest ≤ v) × (v ≤ 1152921504606846976 + 512)) ⌝ }
+    requires { ⌜ (e ≤ 255) × (0 < v → (rest < v) × (v ≤ 1152921504606846976 + 1024)) ⌝ }
     ensures { λ r. ⌜ Ended v rest e r ⌝ }
 {
-    if v == 0xffff_ffff_ffff_ffff {
-        v
+    if v == 0 {
+        0xffff_ffff_ffff_ffff
     } else {
-        v - rest as u64 + e as u64
+        v - 1 - rest as u64 + e as u64
     }
 }
 
@@ -113,13 +127,13 @@ fn leave(
     rest: usize,
 ) -> u64
     requires { ⌜ (a < period) × (period ≤ 256) × (lo ≤ 255) × (top ≤ 255) × (length (now out) ≡ 256) × Small (now pending) rest lo top ⌝ }
-    ensures { λ r. ⌜ (timeOf r ≡ among (now (pending .entry)) lo (max lo (top + 1))) × (length (now (out .exit)) ≡ 256) × LeftBy period (now (pending .entry)) a rest lo (max lo (top + 1)) (now (out .entry)) (now (out .exit)) ⌝ }
+    ensures { λ r. ⌜ (keptTime r ≡ among (now (pending .entry)) lo (max lo (top + 1))) × (length (now (out .exit)) ≡ 256) × LeftBy period (now (pending .entry)) a rest lo (max lo (top + 1)) (now (out .entry)) (now (out .exit)) ⌝ }
 {
-    let mut run = 0xffff_ffff_ffff_ffffu64;
+    let mut run = 0;
     let mut q = (a + lo) % period;
     let mut e = lo;
     while e <= top {
-        run = times::longer_of(run, pending[e]);
+        run = times::larger(run, pending[e]);
         out[q] = times::longer_of(out[q], ended(run, rest, e));
         q = bus::turn(q, period);
         e += 1;
@@ -133,8 +147,8 @@ pub fn arrive_all(t: &[u64], out: &mut [u64; 256], b: Bus, lo: usize, hi: usize)
     requires { ⌜ Fit b × (b .most < b .period) × (1 ≤ lo) × (lo ≤ hi) × (hi ≤ b .most) × Fits (b .period) (now t) × (length (now out) ≡ 256) × (b .period ≤ length (now t)) ⌝ }
     ensures { λ _. ⌜ (length (now (out .exit)) ≡ 256) × LeftAll (b .period) (owns b) (now (t .entry)) lo hi (now (out .entry)) (now (out .exit)) ⌝ }
 {
-    let mut pending = [0xffff_ffff_ffff_ffffu64; 256];
-    let mut run = 0xffff_ffff_ffff_ffffu64;
+    let mut pending = [0u64; 256];
+    let mut run = 0;
     let mut i = b.longest;
     let mut x = b.first;
     let mut len = b.most;

@@ -3,9 +3,8 @@ use mathlib.Core.Path.{_≡_, refl, sym, _∙_, ap, subst}
 use Prim.Native.Nat.{ℕ, _+_, _-_, _%_, _≤_, _<_, max}
 use native.Mathlib.Nat.{mod-lt, mod-add-mod}
 use lib.ListN.{length, length-set}
-use Rattle.times.specs.Arrays.{timeOf}
-use Rattle.times.proofs.Tables.{time-some}
-use Rattle.waiting.specs.Waiting.{among, LeftBy}
+use Rattle.waiting.specs.Waiting.{keptTime, among, LeftBy}
+use Rattle.waiting.proofs.Keeping.{kept-some}
 use Rattle.waiting.proofs.Pending.{among-none, among-more, left-none, left-more}
 use native.Mathlib.Omega.{arith}
 use borrow.Author.Needs.{needs}
@@ -14,7 +13,7 @@ use Rattle.waiting.proofs.leave.Tie as tie
 
 abbrev Inv-loop : tie.InvT-loop
 Inv-loop pending out₀ period a lo top rest run₀ q₀ e₀ out run q e =
-    (lo ≤ e) × (e ≤ max lo (top + 1)) × (length out ≡ 256) × (q < period) × (q ≡ (a + e) % period) × (timeOf run ≡ among pending lo e)
+    (lo ≤ e) × (e ≤ max lo (top + 1)) × (length out ≡ 256) × (q < period) × (q ≡ (a + e) % period) × (keptTime run ≡ among pending lo e)
     × LeftBy period pending a rest lo e out₀ out
 
 abbrev μ-loop : tie.MeasureT-loop
@@ -29,7 +28,16 @@ rem-q c = omega (arith, c .pre .0)
 loop-holds : tie.Need-loop-holds Inv-loop μ-loop
 loop-holds c =
     let a = c .args in
-    (omega arith, omega arith, c .pre .4, mod-lt (a .a + a .lo) (omega (arith, c .pre .0)), refl, among-none _ _ _ refl, left-none _ _ _ _ _ _)
+    (omega arith, omega arith, c .pre .4, mod-lt (a .a + a .lo) (omega (arith, c .pre .0)), refl, among-none _ _, left-none _ _ _ _ _ _)
+
+mul-larger : tie.Need-mul-larger Inv-loop μ-loop
+mul-larger c = omega arith
+
+element-copy-out-larger : tie.Need-element-copy-out-larger Inv-loop μ-loop
+element-copy-out-larger c = omega arith
+
+larger-requires : tie.Need-larger-requires Inv-loop μ-loop
+larger-requires c κs = search needs
 
 mul-longer-of : tie.Need-mul-longer-of Inv-loop μ-loop
 mul-longer-of c = omega arith
@@ -37,33 +45,24 @@ mul-longer-of c = omega arith
 element-copy-out-longer-of : tie.Need-element-copy-out-longer-of Inv-loop μ-loop
 element-copy-out-longer-of c = omega arith
 
-longer-of-requires : tie.Need-longer-of-requires Inv-loop μ-loop
-longer-of-requires c κs = search needs
-
-mul-longer-of-2 : tie.Need-mul-longer-of-2 Inv-loop μ-loop
-mul-longer-of-2 c = omega arith
-
-element-copy-out-longer-of-2 : tie.Need-element-copy-out-longer-of-2 Inv-loop μ-loop
-element-copy-out-longer-of-2 c = omega arith
-
 -- the longest of the pending times, with this one
-more : (c : tie.After-longer-of Inv-loop μ-loop) → (
+more : (c : tie.After-larger Inv-loop μ-loop) → (
     let s = c .before .before .before .before in
-    timeOf (c .longer-of .result) ≡ among (s .args .pending .now) (s .args .lo) (c .before .before .before .loop .e + 1)
+    keptTime (c .larger .result) ≡ among (s .args .pending .now) (s .args .lo) (c .before .before .before .loop .e + 1)
     )
 more c =
     let l = c .before .before .before .loop in
-    among-more _ _ (l .e) (l .run) _ (l .inv .0) (l .inv .5) (c .longer-of .ensures)
+    among-more _ _ (l .e) (l .run) _ (l .inv .0) (l .inv .5) (c .larger .ensures)
 
 ended-requires : tie.Need-ended-requires Inv-loop μ-loop
 ended-requires c κs =
     let s = c .before .before .before .before .before in
     let l = c .before .before .before .before .loop in
     let last = c .before .before .before .loop-test .taken in
-    (omega (arith, last, s .pre .3), (λ n. s .pre .5 (l .e) _ (l .inv .0) last (sym (more (c .before)) ∙ time-some _ n)))
+    (omega (arith, last, s .pre .3), (λ n. let (x, y) = s .pre .5 (l .e) _ (l .inv .0) last (sym (more (c .before)) ∙ kept-some _ n) in (omega (arith, x, n), omega (arith, y, n))))
 
-longer-of-requires-2 : tie.Need-longer-of-requires-2 Inv-loop μ-loop
-longer-of-requires-2 c κs = search needs
+longer-of-requires : tie.Need-longer-of-requires Inv-loop μ-loop
+longer-of-requires c κs = search needs
 
 mul-out : tie.Need-mul-out Inv-loop μ-loop
 mul-out c = omega arith
@@ -99,7 +98,7 @@ loop-again c =
       omega (arith, is, mod-lt (a .a + (l .e + 1)) pos),
       is,
       run,
-      left-more _ _ _ _ _ _ _ _ _ _ _ _ (l .inv .0) (l .inv .4) (omega (arith, l .inv .2, l .inv .3, s .pre .1)) run (c .before .before .ended .ensures) (c .before .longer-of2 .ensures) (l .inv .6),
+      left-more _ _ _ _ _ _ _ _ _ _ _ _ (l .inv .0) (l .inv .4) (omega (arith, l .inv .2, l .inv .3, s .pre .1)) run (c .before .before .ended .ensures) (c .before .longer-of .ensures) (l .inv .6),
     )
 
 returns : tie.Need-returns Inv-loop μ-loop
@@ -121,13 +120,13 @@ leave-spec =
     add-q
     rem-q
     loop-holds
+    mul-larger
+    element-copy-out-larger
+    larger-requires
     mul-longer-of
     element-copy-out-longer-of
-    longer-of-requires
-    mul-longer-of-2
-    element-copy-out-longer-of-2
     ended-requires
-    longer-of-requires-2
+    longer-of-requires
     mul-out
     element-write-out
     turn-requires

@@ -7,17 +7,17 @@ use Rattle.waiting.proofs.Pending.{waits-on}
 use Rattle.waiting.proofs.wait_on.Statement.{statement}
 use Rattle.waiting.proofs.wait_on.Tie as tie
 
-mul-longer-of : tie.Need-mul-longer-of
-mul-longer-of c = search needs
+mul-larger : tie.Need-mul-larger
+mul-larger c = search needs
 
-element-copy-out-longer-of : tie.Need-element-copy-out-longer-of
-element-copy-out-longer-of c = search needs
+element-copy-out-larger : tie.Need-element-copy-out-larger
+element-copy-out-larger c = search needs
 
-longer-of-requires : tie.Need-longer-of-requires
-longer-of-requires c κs = search needs
+larger-requires : tie.Need-larger-requires
+larger-requires c κs = search needs
 
-longer-of-requires-2 : tie.Need-longer-of-requires-2
-longer-of-requires-2 c κs = search needs
+larger-requires-2 : tie.Need-larger-requires-2
+larger-requires-2 c κs = search needs
 
 mul-pending : tie.Need-mul-pending
 mul-pending c = search needs
@@ -29,7 +29,7 @@ returns : tie.Need-returns
 returns c =
     let s = c .before .before .before .before in
     let taken = c .before .before .before .if1 .taken in
-    (simp length-set (omega (arith, s .pre .1)), waits-on _ _ _ _ _ _ _ (omega (arith, taken, s .pre .0, s .pre .1)) (c .before .longer-of .ensures) (c .longer-of2 .ensures))
+    (simp length-set (omega (arith, s .pre .1)), waits-on _ _ _ _ _ _ _ (omega (arith, taken, s .pre .0, s .pre .1)) (c .before .larger .ensures) (c .larger2 .ensures))
 
 returns-2 : tie.Need-returns-2
 returns-2 c =
@@ -39,10 +39,10 @@ pub wait-on-spec : {M : Type 1} → statement M
 wait-on-spec =
     tie.close
     (tie.spec
-    mul-longer-of
-    element-copy-out-longer-of
-    longer-of-requires
-    longer-of-requires-2
+    mul-larger
+    element-copy-out-larger
+    larger-requires
+    larger-requires-2
     mul-pending
     element-write-pending
     returns

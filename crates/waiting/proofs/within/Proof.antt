@@ -4,8 +4,9 @@ use mathlib.Core.Path.{_≡_, sym, _∙_, ap, subst}
 use Prim.Native.Nat.{ℕ, _+_, _-_, _%_, _≤_, _<_, min, max}
 use native.Mathlib.Nat.{mod-lt}
 use lib.ListN.{getD, length, length-set}
-use Rattle.times.specs.Arrays.{Fits, LaterOf}
-use Rattle.waiting.specs.Waiting.{ComeLater, Shorter}
+use Rattle.runs.specs.Figures.{later}
+use Rattle.times.specs.Arrays.{timeOf, Fits}
+use Rattle.waiting.specs.Waiting.{keptTime, ComeLater, Shorter}
 use Rattle.waiting.proofs.Coming.{back-one, come-more, come-later, come-small}
 use Rattle.waiting.proofs.Pending.{shorter-none, shorter-more}
 use native.Mathlib.Omega.{arith}
@@ -39,8 +40,8 @@ come-requires c κs =
     let s = c .before .before in
     (s .pre .0, few c, s .pre .4, s .pre .6, s .pre .7)
 
-later-by-requires : tie.Need-later-by-requires Inv-loop μ-loop
-later-by-requires c κs =
+kept-requires : tie.Need-kept-requires Inv-loop μ-loop
+kept-requires c κs =
     let s = c .before .before .before in (
       omega (arith, s .pre .5),
       (λ n. omega (arith, come-small (s .args .period) _ _ _ _ (s .pre .6) (omega (arith, s .pre .0)) (c .come .ensures) n, few (c .before), s .pre .4, s .pre .5)),
@@ -63,8 +64,8 @@ loop-holds c =
       s .pre .8,
       omega (arith, is, mod-lt (a .y + a .period - (a .gap + least .result)) {m = a .period} (omega (arith, s .pre .0))),
       is ∙ ap (λ (k : ℕ). (a .y + a .period - k) % a .period) n,
-      subst (λ (k : ℕ). ComeLater (a .period) (a .t .now) (a .y) k (a .rest) (c .before .later-by .result)) n
-          (come-later _ _ _ _ _ _ _ (c .before .before .come .ensures) (c .before .later-by .ensures)),
+      subst (λ (k : ℕ). ComeLater (a .period) (a .t .now) (a .y) k (a .rest) (c .before .kept .result)) n
+          (come-later _ _ _ _ _ _ _ (c .before .before .come .ensures) (c .before .kept .ensures)),
       shorter-none _ _ _ _ _ _ _,
     )
 
@@ -86,13 +87,13 @@ low c =
     let l = c .before .before .loop in
     omega (arith, c .turn-back .ensures, mod-lt (l .at + s .args .period - 1) {m = s .args .period} (omega (arith, s .pre .0)))
 
-mul-later-by : tie.Need-mul-later-by Inv-loop μ-loop
-mul-later-by c =
+mul-kept : tie.Need-mul-kept Inv-loop μ-loop
+mul-kept c =
     let s = c .before .before .before .before .before .before .before .before in
     omega (arith, low c, s .pre .4)
 
-shared-slice-read-later-by : tie.Need-shared-slice-read-later-by Inv-loop μ-loop
-shared-slice-read-later-by c =
+shared-slice-read-kept : tie.Need-shared-slice-read-kept Inv-loop μ-loop
+shared-slice-read-kept c =
     let s = c .before .before .before .before .before .before .before .before .before in
     omega (arith, low (c .before), s .pre .7)
 
@@ -105,28 +106,28 @@ some-cycles c =
     let s = c .before .before .before .before .before .before .before .before in
     omega (arith, c .before .loop-test .taken, s .pre .3, s .pre .4, s .pre .5)
 
-add-later-by : tie.Need-add-later-by Inv-loop μ-loop
-add-later-by c = omega (arith, some-cycles (c .before))
+add-kept : tie.Need-add-kept Inv-loop μ-loop
+add-kept c = omega (arith, some-cycles (c .before))
 
-add-later-by-2 : tie.Need-add-later-by-2 Inv-loop μ-loop
-add-later-by-2 c = omega (arith, some-cycles (c .before))
+add-kept-2 : tie.Need-add-kept-2 Inv-loop μ-loop
+add-kept-2 c = omega (arith, some-cycles (c .before))
 
-later-by-requires-2 : tie.Need-later-by-requires-2 Inv-loop μ-loop
+kept-requires-2 : tie.Need-kept-requires-2 Inv-loop μ-loop
 unfolding Fits
-later-by-requires-2 c κs =
+kept-requires-2 c κs =
     let s = c .before .before .before .before .before .before .before .before .before in
     let few = some-cycles (c .before) in
     (omega (arith, few), (λ n. omega (arith, s .pre .6 (c .before .turn-back .result) (low (c .before)) n, few)))
 
 -- the time at the next offset back is moved on to y, and by `rest`
-moved : (c : tie.After-later-by2 Inv-loop μ-loop) → (
+moved : (c : tie.After-kept2 Inv-loop μ-loop) → (
     let a = c .before .before .before .before .before .before .before .before .before .before .args in
-    LaterOf (getD (a .t .now) (c .before .before .turn-back .result) 0) (a .gap + c .before .before .before .before .loop .e + a .rest) (c .later-by2 .result))
+    keptTime (c .kept2 .result) ≡ later (a .gap + c .before .before .before .before .loop .e + a .rest) (timeOf (getD (a .t .now) (c .before .before .turn-back .result) 0)))
 moved c =
-    subst (λ (k : ℕ). LaterOf (getD (c .before .before .before .before .before .before .before .before .before .before .args .t .now) (c .before .before .turn-back .result) 0) k (c .later-by2 .result)) (omega arith) (c .later-by2 .ensures)
+    subst (λ (k : ℕ). keptTime (c .kept2 .result) ≡ later k (timeOf (getD (c .before .before .before .before .before .before .before .before .before .before .args .t .now) (c .before .before .turn-back .result) 0))) (omega arith) (c .kept2 .ensures)
 
-longer-of-requires : tie.Need-longer-of-requires Inv-loop μ-loop
-longer-of-requires c κs = search needs
+larger-requires : tie.Need-larger-requires Inv-loop μ-loop
+larger-requires c κs = search needs
 
 add-e : tie.Need-add-e Inv-loop μ-loop
 add-e c = omega arith
@@ -153,7 +154,7 @@ loop-again c =
       simp length-set (omega (arith, l .inv .2)),
       low (c .before .before .before),
       place,
-      come-more (a .period) _ (a .y) w w' (a .rest) (back .result) _ _ _ _ (omega (arith, s .pre .0)) more place (omega (arith, last)) (moved (c .before)) (c .longer-of .ensures) (l .inv .5),
+      come-more (a .period) _ (a .y) w w' (a .rest) (back .result) _ _ _ _ (omega (arith, s .pre .0)) more place (omega (arith, last)) (moved (c .before)) (c .larger .ensures) (l .inv .5),
       shorter-more _ _ _ _ _ _ _ _ _ _ (omega (arith, l .inv .2, last, s .pre .2))
           (subst (λ (k : ℕ). ComeLater (a .period) (a .t .now) (a .y) k (a .rest) (l .best)) same (l .inv .5)) (l .inv .6),
     )
@@ -179,18 +180,18 @@ within-spec =
     least-requires
     add-n
     come-requires
-    later-by-requires
+    kept-requires
     turn-back-by-requires
     loop-holds
     mul-pending
     element-write-pending
     turn-back-requires
-    mul-later-by
-    shared-slice-read-later-by
-    add-later-by
-    add-later-by-2
-    later-by-requires-2
-    longer-of-requires
+    mul-kept
+    shared-slice-read-kept
+    add-kept
+    add-kept-2
+    kept-requires-2
+    larger-requires
     add-e
     loop-less
     loop-again
