@@ -99,12 +99,13 @@ module _ {own rest : Set} {P : ℕ} (fit : Parted own rest P) (s : Set) (at : Be
         let y = beginOf v (i + 1) in
         let (lt, none) = h .next i l in
         let under = begins-at (i + 1) l .low in
-        let d = y - x in
-        (d - lengthOf v i,
-        next-from P owns x (lengthOf v i) d y (begins-at i (omega arith)) (run-at i (omega arith) .1) (omega arith) (omega arith)
-        (sym (ap (λ (n : ℕ). n % P) (let z : x + d ≡ y = omega arith in z) ∙ mod-eq-of-lt under))
-        (begins-at (i + 1) l)
-        (λ k i j. no-begin ((x + k) % P) (x + k) (mod-eq-of-lt (omega arith)) (none (x + k) (omega arith) (omega arith))))
+        let d = y - x in (
+          d - lengthOf v i,
+          next-from P owns x (lengthOf v i) d y (begins-at i (omega arith)) (run-at i (omega arith) .1) (omega arith) (omega arith)
+              (sym (ap (λ (n : ℕ). n % P) (let z : x + d ≡ y = omega arith in z) ∙ mod-eq-of-lt under))
+              (begins-at (i + 1) l)
+              (λ k i j. no-begin ((x + k) % P) (x + k) (mod-eq-of-lt (omega arith)) (none (x + k) (omega arith) (omega arith))),
+        )
 
     -- the first is the lowest
     lowest-first : (i : ℕ) → i < v .count → beginOf v 0 ≤ beginOf v i
@@ -123,14 +124,15 @@ module _ {own rest : Set} {P : ℕ} (fit : Parted own rest P) (s : Set) (at : Be
         let first = h .first (omega arith) in
         let under = begins-at i l .low in
         let le = lowest-first i l in
-        let d = y + P - x in
-        (d - lengthOf v i,
-        next-from P owns x (lengthOf v i) d y (begins-at i l) (run-at i l .1) (omega arith) (omega arith)
-        (sym (ap (λ (n : ℕ). n % P) (let z : x + d ≡ y + P = omega arith in z) ∙ add-mod-right y P ∙ mod-eq-of-lt (begins-at 0 (omega arith) .low)))
-        (begins-at 0 (omega arith))
-        (λ k i j. split P (x + k)
-        (λ u. no-begin ((x + k) % P) (x + k - P) (wrapped P (x + k) u (omega arith)) (low .passed (x + k - P) (omega arith) (omega arith)))
-        (λ u. no-begin ((x + k) % P) (x + k) (mod-eq-of-lt u) (none (x + k) (omega arith) u))))
+        let d = y + P - x in (
+          d - lengthOf v i,
+          next-from P owns x (lengthOf v i) d y (begins-at i l) (run-at i l .1) (omega arith) (omega arith)
+              (sym (ap (λ (n : ℕ). n % P) (let z : x + d ≡ y + P = omega arith in z) ∙ add-mod-right y P ∙ mod-eq-of-lt (begins-at 0 (omega arith) .low)))
+              (begins-at 0 (omega arith))
+              (λ k i j. split P (x + k)
+              (λ u. no-begin ((x + k) % P) (x + k - P) (wrapped P (x + k) u (omega arith)) (low .passed (x + k - P) (omega arith) (omega arith)))
+              (λ u. no-begin ((x + k) % P) (x + k) (mod-eq-of-lt u) (none (x + k) (omega arith) u))),
+        )
 
     listed : Listed P owns v
     unfolding after

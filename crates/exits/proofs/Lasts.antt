@@ -5,7 +5,7 @@ use lib.Pow.{pow-pos, ones-lt}
 use lib.Bits.{bitAnd, and-le-r}
 use native.Mathlib.Nat.{mod-lt, mod-add-mod, lt-of-le-of-lt}
 use native.Mathlib.Omega.{arith}
-use Prim.Native.Nat.{ℕ, _+_, _-_, _*_, _%_, _^_, _≤_, _<_}
+use Prim.Native.Nat.{ℕ, _+_, _-_, _*_, _%_, _^_, _≤_, _<_, min}
 use Rattle.runs.specs.Schedules.{ownsNext}
 use Rattle.runs.specs.Stretches.{Begins}
 use Rattle.runs.proofs.Cases.{split}
@@ -27,8 +27,8 @@ use Rattle.exits.proofs.Served.{Met, Among}
 -- ---- the last cycles, within len places from `at` on
 
 -- `mask` is these places, `inside` has the offsets of the stretch, `last` those with the cycles after them, and r what is in the stretch of these
-module _ (m at len lo hi mask inside many last r : ℕ) (least : 1 ≤ lo) (ordered : lo ≤ hi) (fits : at + len ≤ 256)
-    (places : mask ≡ ((2 ^ len - 1) * 2 ^ at) % 2 ^ 256) (within : inside ≡ bitAnd m mask) (durations : many ≡ hi + 1 - lo)
+module _ (m at len lo hi mask inside many last r : ℕ) (least : 1 ≤ lo) (fits : at + len ≤ 256)
+    (places : mask ≡ ((2 ^ len - 1) * 2 ^ at) % 2 ^ 256) (within : inside ≡ bitAnd m mask) (durations : many ≡ min hi len + 1 - lo)
     (on : Raised inside (lo - 1) many last) (is : r ≡ bitAnd last mask) where
   in-mask : (o : ℕ) → at ≤ o → o < at + len → has mask o ≡ true
   in-mask o l h =

@@ -183,8 +183,11 @@ module _ (s : List ℕ) (ok : Scheduled (scheduleAt s)) (r : Divided) (i : ℕ) 
   few =
       let own = owns (scheduleAt s .core) (scheduleAt s .turns) in
       let (o, l, e) = named-owns (scheduleAt s .core) (scheduleAt s .turns) (ok .turns) (ok .named) in
-      omega (arith, begun-same (r .period) (has (value (r .own))) own (h .own-is) (r .period) (omega arith),
-      subst (λ (P : ℕ). begun P own P ≤ 16) (sym whole) (few-begun (scheduleAt s .core) (scheduleAt s .turns) (omega (arith, l)) (ok .few)))
+      omega (
+        arith,
+        begun-same (r .period) (has (value (r .own))) own (h .own-is) (r .period) (omega arith),
+        subst (λ (P : ℕ). begun P own P ≤ 16) (sym whole) (few-begun (scheduleAt s .core) (scheduleAt s .turns) (omega (arith, l)) (ok .few)),
+      )
 
   pub divides : Divides s r
   divides =

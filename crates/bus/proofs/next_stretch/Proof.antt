@@ -19,9 +19,11 @@ step : (s : tie.Start)
 step s =
     let b = s .args .b in
     let (lt, is-x, is-len) = s .pre .2 in
-    let (gap, n) = s .pre .0 .listed (s .pre .1) .next (s .args .i) lt in
-    (gap, subst (λ (x : ℕ). NextStretch (b .period) (owns b) x (s .args .len) gap (beginOf (b .stretches) (after (b .stretches .count) (s .args .i)))) is-x
-    (subst (λ (len : ℕ). NextStretch (b .period) (owns b) (beginOf (b .stretches) (s .args .i)) len gap (beginOf (b .stretches) (after (b .stretches .count) (s .args .i)))) is-len n))
+    let (gap, n) = s .pre .0 .listed (s .pre .1) .next (s .args .i) lt in (
+      gap,
+      subst (λ (x : ℕ). NextStretch (b .period) (owns b) x (s .args .len) gap (beginOf (b .stretches) (after (b .stretches .count) (s .args .i)))) is-x
+          (subst (λ (len : ℕ). NextStretch (b .period) (owns b) (beginOf (b .stretches) (s .args .i)) len gap (beginOf (b .stretches) (after (b .stretches .count) (s .args .i)))) is-len n),
+    )
 
 -- its number
 number : (c : tie.Joined1) → c .if1 .n ≡ after (c .before .before .args .b .stretches .count) (c .before .before .args .i)
