@@ -52,14 +52,6 @@ module _ (P n x k : ℕ) (lt : x < P) (most : P ≤ 256) (low : Lowest n x (x + 
     }
 
 -- there is one such number
-pub ahead-one : (P n x r r' : ℕ) → Ahead P n x r → Ahead P n x r' → r ≡ r'
-ahead-one P n x r r' a b =
-    split r r'
-    (λ l. split r' r
-    (λ m. omega arith)
-    (λ m. absurd (false≢true (sym (b .passed r m) ∙ a .found (omega (arith, b .most))))))
-    (λ l. absurd (false≢true (sym (a .passed r' l) ∙ b .found (omega (arith, a .most)))))
-
 -- what judging has shown of a bus
 pub parted : (b : Bus) → Fit b → Parted (b .own) (b .rest) (b .period)
 parted b fit = record { least = fit .least; most = fit .most; own-in = fit .own-in; rest-in = fit .rest-in; apart = fit .apart; some = fit .some }

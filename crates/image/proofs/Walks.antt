@@ -67,9 +67,6 @@ module _ (b : Bus) (q : Places) {X : Type 0} (empty : X) (join : X → X → X) 
 -- ---- nodes
 
 module _ (s : List ℕ) (k : Walk) (places : List ℕ) (w : Walkable s k places) where
-  pub period-small : k .bus .period ≤ 256
-  period-small = w .fit .most
-
   -- the laws about runs hold of the walk's bus
   pub walk-lawful : Lawful (busMeant (k .bus))
   walk-lawful = owning-lawful (k .bus .period) (owns (k .bus)) (w .fit .least)

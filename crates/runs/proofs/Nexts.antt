@@ -43,10 +43,6 @@ module _ (P : ℕ) (own : ℕ → Bool) where
   pub stretched-may : (x r e : ℕ) → Stretched P own x r → e ≤ r → e ≤ P → ownsNext P own e x ≡ true
   stretched-may x r e h l m = next-of P own e x (λ i k. split P r (λ n. h .all n i (omega arith)) (λ n. h .run n .owned i (omega arith)))
 
-  pub may-stretched : (x r e : ℕ) → Stretched P own x r → ownsNext P own e x ≡ true → e ≤ P → e ≤ r
-  may-stretched x r e h t m =
-      split e r (λ l. l) (λ l. absurd (false≢true (sym (h .run (omega arith) .ends) ∙ next-at P own e x t r l)))
-
 module _ (P : ℕ) (own : ℕ → Bool) (pos : 0 < P) where
   -- an access that may start after i cycles waits no longer
   pub wait-le : (e o i : ℕ) → 1 ≤ e → e ≤ owning P own .most → o < P → ownsNext P own e ((o + i) % P) ≡ true → owning P own .wait e o ≤ i
