@@ -21,41 +21,51 @@ use Rattle.exits.proofs.Landings.{all-own}
 use Rattle.exits.proofs.Served.{Met, none-past}
 
 -- nothing is gone
-pub longest-none : (P : ℕ) (own : ℕ → Bool) (n e y : ℕ) → LongestWait P own n e y 0 0
+pub longest-none : (P : ℕ) (own : ℕ → Bool) (n e y : ℕ) → LongestWait P own n e 0 y 0 0
 longest-none P own n e y = record { within = omega arith; one = λ h. absurd (omega arith); most = λ w l m t o. absurd (omega arith) }
 
 -- ---- from the stretch at x on to the one at y
 
 module _ (P : ℕ) (own : ℕ → Bool) (n e x len gap y before gone : ℕ) (c : NextStretch P own x len gap y) (some : 1 ≤ e)
-    (fits : gone + (len + gap) ≤ P) (so : LongestWait P own n e x gone before) where
+    (fits : gone + (len + gap) ≤ P) (few : before ≤ gone) (so : len < e → LongestWait P own n e 0 x gone before) where
   -- who stands before the stretch at x waits on only if that has no room
   further : (w : ℕ) → len + gap < w → w ≤ gone + (len + gap) → has n ((y + P - w) % P) ≡ true → Open P own e y w → (len < e) × (w ≤ len + gap + before)
   further w l m t o =
       let k = w - (len + gap) in
       let z : len + gap + k ≡ w = omega arith in
-      let h = so .most k (omega arith) (omega arith)
+      split e len
+      (λ g. let u = closes P own x len gap y c e w some g o in absurd (omega arith))
+      (λ g.
+      let h = so g .most k (omega arith) (omega arith)
       (sym (ap (has n) (back-past P own x len gap y c k (omega arith))) ∙ subst (λ (v : ℕ). has n ((y + P - v) % P) ≡ true) (sym z) t)
       (from-past P own x len gap y c e k (omega arith) (subst (λ (v : ℕ). Open P own e y v) (sym z) o)) in
-      (split e len (λ g. let u = closes P own x len gap y c e w some g o in absurd (omega arith)) (λ g. g), omega arith)
+      (g, omega arith))
 
   -- it has no room, and some wait for it
-  pub longest-past : (k : ℕ) → len < e → 1 ≤ before → k ≡ before + (len + gap) → LongestWait P own n e y (gone + (len + gap)) k
-  longest-past k l h q =
-      let g = so .within in
+  pub longest-past : (floor k : ℕ) → len < e → 1 ≤ before → k ≡ before + (len + gap) → LongestWait P own n e floor y (gone + (len + gap)) k
+  longest-past floor k l h q =
       record {
         within = omega arith;
         one = λ i.
-            let (t, o) = so .one h in
+            let (t, o) = so l .one h in
             let z : len + gap + before ≡ k = omega arith in
             subst (λ (v : ℕ). (has n ((y + P - v) % P) ≡ true) × Open P own e y v) z
             (ap (has n) (back-past P own x len gap y c before (omega arith)) ∙ t, opens-past P own x len gap y c e before some l (omega arith) o);
         most = λ w i m t o. split w (len + gap) (λ j. omega arith) (λ j. let (u, v) = further w j m t o in omega arith);
       }
 
+  -- it has room, and who waits for y stands nearer
+  pub longest-few : (floor : ℕ) → e ≤ len → gap + e ≤ floor + 1 → LongestWait P own n e floor y (gone + (len + gap)) 0
+  longest-few floor l h = record {
+    within = omega arith;
+    one = λ i. absurd (omega arith);
+    most = λ w i m t o. let u = closes P own x len gap y c e w some l o in omega arith;
+  }
+
   -- `past` offsets of it are passed over, and it is `free` cycles on to the next offset
-  pub longest-near : (past at free k : ℕ) → past ≡ len + 1 - e → (len < e → before ≡ 0) → at ≡ (x + past) % P → Ahead P n at free → k ≡ len + gap - (past + free)
-      → LongestWait P own n e y (gone + (len + gap)) k
-  longest-near past at free k p none place a q = record {
+  pub longest-near : (floor past at free k : ℕ) → past ≡ len + 1 - e → (len < e → before ≡ 0) → at ≡ (x + past) % P → Ahead P n at free → k ≡ len + gap - (past + free)
+      → LongestWait P own n e floor y (gone + (len + gap)) k
+  longest-near floor past at free k p none place a q = record {
     within = omega arith;
     one = λ h.
         let z : len + gap - k - past ≡ free = omega arith in (
@@ -64,7 +74,7 @@ module _ (P : ℕ) (own : ℕ → Bool) (n e x len gap y before gone : ℕ) (c :
         );
     most = λ w i m t o.
         let l = near w m t o in
-        split w k (λ h. h)
+        split w k (λ h. omega arith)
         (λ h. absurd (false≢true (sym (a .passed (len + gap - w - past) (omega arith)) ∙ sym (ap (has n) (at-back w l)) ∙ t)));
   }
     where
@@ -117,8 +127,8 @@ module _ (b : Bus) (fit : Fit b) (e : ℕ) (some : 1 ≤ e) (fine : e ≤ b .mos
   }
 
   module _ (less : b .most < P) where
-    module _ (x len gap y len' gone far at best : ℕ) (few : gone < P) (met : Met b x len gone) (c : NextStretch P (owns b) x len gap y)
-        (next : Met b y len' (gone + (len + gap))) (so : LongestWait P (owns b) (value s) e y (gone + (len + gap)) far) (kept : Kept b e s gone at best) where
+    module _ (x len gap y len' gone floor far at best : ℕ) (is-floor : e ≤ len' → floor ≤ best) (few : gone < P) (met : Met b x len gone) (c : NextStretch P (owns b) x len gap y)
+        (next : Met b y len' (gone + (len + gap))) (so : LongestWait P (owns b) (value s) e floor y (gone + (len + gap)) far) (kept : Kept b e s gone at best) where
       ahead : 1 ≤ gone + (len + gap)
       ahead = omega (arith, some-len P (owns b) x len gap y c)
 
@@ -138,8 +148,8 @@ module _ (b : Bus) (fit : Fit b) (e : ℕ) (some : 1 ≤ e) (fine : e ≤ b .mos
             let (g, u, p, n, o) = subst (λ (v : ℕ). WaitsFor b e s v w) q t in
             let v = none-past b fit less y len' (gone + (len + gap)) e w next ahead fine o in
             let r = so .most w p (omega arith) n o in
-            let f = room (run-fits P (owns b) y len' e (next .run) u) in
-            omega arith)
+            let h = run-fits P (owns b) y len' e (next .run) u in
+            omega (arith, room h, is-floor h))
             (λ k. absurd (none-between P (owns b) (b .first) (fit .begins less) gone x len gap y few (met .place) c i h k (t .0))));
       }
 
@@ -150,7 +160,7 @@ module _ (b : Bus) (fit : Fit b) (e : ℕ) (some : 1 ≤ e) (fine : e ≤ b .mos
       -- the offset with the longest wait for y waits longest
       pub kept-far : (at' : ℕ) → e ≤ len' → best < far → at' ≡ (y + P - far) % P → Kept b e s (gone + (len + gap)) at' far
       kept-far at' room l q =
-          let (t, o) = so .one (omega arith) in
+          let (t, o) = so .one (omega (arith, is-floor room)) in
           let h = none-past b fit less y len' (gone + (len + gap)) e far next ahead fine o in
           let w : busMeant b .wait e at' ≡ far =
           ap (λ (v : ℕ). busMeant b .wait e v) q

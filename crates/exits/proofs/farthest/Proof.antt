@@ -1,4 +1,6 @@
 -- Before each turn it is known how long an offset waits for the stretch at x (`LongestWait`), and from which the wait was longest so far (`Kept`).
+use mathlib.Core.Path.{_≡_, subst}
+use mathlib.Core.Logic.{⊎-elim}
 use Prim.Native.Nat.{ℕ, _+_, _-_, _≤_, _<_}
 use Rattle.runs.proofs.Forward.{some-len}
 use Rattle.bus.specs.Listed.{Nth}
@@ -14,7 +16,7 @@ use Rattle.exits.proofs.farthest.Tie as tie
 
 abbrev Inv-loop : tie.InvT-loop
 Inv-loop b e s o at₀ best₀ far₀ i₀ x₀ len₀ gone₀ at best far i x len gone =
-    Met b x len gone × LongestWait (b .period) (owns b) (value s) e x gone far × Kept b e s gone at best × Nth (b .stretches) i x len
+    Met b x len gone × (far ≤ gone) × (len < e → LongestWait (b .period) (owns b) (value s) e 0 x gone far) × Kept b e s gone at best × Nth (b .stretches) i x len
 
 abbrev μ-loop : tie.MeasureT-loop
 μ-loop b e s o at₀ best₀ far₀ i₀ x₀ len₀ gone₀ at best far i x len gone = b .period - gone
@@ -34,7 +36,8 @@ loop-holds c =
     let s : tie.Start Inv-loop μ-loop = c .before .before in
     let a = s .args in (
       met-first (a .b) (s .pre .0) (part c),
-      longest-none (a .b .period) (owns (a .b)) (value (a .s)) (a .e) (a .b .first),
+      omega arith,
+      (λ h. longest-none (a .b .period) (owns (a .b)) (value (a .s)) (a .e) (a .b .first)),
       kept-first (a .b) (a .e) (a .s) (a .o) (s .pre .3) (s .pre .4),
       s .pre .0 .nth (part c),
     )
@@ -42,7 +45,7 @@ loop-holds c =
 next-stretch-requires : tie.Need-next-stretch-requires Inv-loop μ-loop
 next-stretch-requires c κs =
     let s : tie.Start Inv-loop μ-loop = c .before .before .before .before .before in
-    (s .pre .0, part (c .before .before .before), c .before .before .loop .inv .3)
+    (s .pre .0, part (c .before .before .before), c .before .before .loop .inv .4)
 
 -- the next stretch is met, some cycles further on
 next : (c : tie.After-next-stretch Inv-loop μ-loop) → (
@@ -58,94 +61,118 @@ next c =
       some-len (b .period) (owns b) (l .x) (l .len) (n .result .gap) (n .result .at) (n .ensures .0),
     )
 
+-- the wait above which one counts
+floor-known : (c : tie.Joined3 Inv-loop μ-loop) → (
+    c .before .before .before .before .before .before .before .before .args .e ≤ c .before .before .next-stretch .result .len → c .if3 .floor ≤ c .before .before .before .before .before .loop .best)
+floor-known c h = ⊎-elim (λ w. omega (arith, w .1)) (λ w. absurd (omega (arith, w .0 .left, h))) (c .if3 .came)
+
+floor-none : (c : tie.Joined3 Inv-loop μ-loop) → (
+    c .before .before .next-stretch .result .len < c .before .before .before .before .before .before .before .before .args .e → _≡_ {A = ℕ} (c .if3 .floor) 0)
+floor-none c h = ⊎-elim (λ w. absurd (omega (arith, w .0 .taken, h))) (λ w. w .1) (c .if3 .came)
+
 longest-wait-requires : tie.Need-longest-wait-requires Inv-loop μ-loop
 longest-wait-requires c κs =
-    let s : tie.Start Inv-loop μ-loop = c .before .before .before .before .before .before in
-    let l = c .before .before .before .loop in
-    (s .pre .0, s .pre .1, l .inv .0 .begins .low, omega (arith, next c .0 .within, l .inv .1 .within))
+    let s : tie.Start Inv-loop μ-loop = c .before .before .before .before .before .before .before .before in
+    let l = c .before .before .before .before .before .loop in
+    (s .pre .0, s .pre .1, s .pre .2, l .inv .0 .begins .low, omega (arith, next (c .before .before) .0 .within, l .inv .1))
 
 -- how long an offset waits for it
 far : (c : tie.After-longest-wait Inv-loop μ-loop) → (
-    let a = c .before .before .before .before .before .before .before .args in
-    let l = c .before .before .before .before .loop in
-    let n = c .before .next-stretch .result in
-    LongestWait (a .b .period) (owns (a .b)) (value (a .s)) (a .e) (n .at) (l .gone + (l .len + n .gap)) (c .longest-wait .result))
+    let a = c .before .before .before .before .before .before .before .before .before .args in
+    let l = c .before .before .before .before .before .before .loop in
+    let n = c .before .before .before .next-stretch .result in
+    LongestWait (a .b .period) (owns (a .b)) (value (a .s)) (a .e) (c .before .if3 .floor) (n .at) (l .gone + (l .len + n .gap)) (c .longest-wait .result))
 far c =
-    let l = c .before .before .before .before .loop in
-    let n = c .before .next-stretch in
-    c .longest-wait .ensures (n .result .at) (l .gone) (n .ensures .0) (next (c .before) .0 .within) (l .inv .1)
+    let l = c .before .before .before .before .before .before .loop in
+    let n = c .before .before .before .next-stretch in
+    c .longest-wait .ensures (n .result .at) (l .gone) (n .ensures .0) (next (c .before .before .before) .0 .within) (l .inv .1) (l .inv .2)
+
+-- of all, where it has no room
+far-all : (c : tie.After-longest-wait Inv-loop μ-loop) → (
+    let a = c .before .before .before .before .before .before .before .before .before .args in
+    let l = c .before .before .before .before .before .before .loop in
+    let n = c .before .before .before .next-stretch .result in
+    n .len < a .e → LongestWait (a .b .period) (owns (a .b)) (value (a .s)) (a .e) 0 (n .at) (l .gone + (l .len + n .gap)) (c .longest-wait .result))
+far-all c h =
+    let a = c .before .before .before .before .before .before .before .before .before .args in
+    let l = c .before .before .before .before .before .before .loop in
+    let n = c .before .before .before .next-stretch .result in
+    subst (λ (k : ℕ). LongestWait (a .b .period) (owns (a .b)) (value (a .s)) (a .e) k (n .at) (l .gone + (l .len + n .gap)) (c .longest-wait .result)) (floor-none (c .before) h) (far c)
 
 add-gone : tie.Need-add-gone Inv-loop μ-loop
-add-gone c = let s : tie.Start Inv-loop μ-loop = c .before .before .before .before .before .before .before .before in omega (arith, next (c .before .before) .0 .within, s .pre .0 .most)
+add-gone c = let s : tie.Start Inv-loop μ-loop = c .before .before .before .before .before .before .before .before .before .before in omega (arith, next (c .before .before .before .before) .0 .within, s .pre .0 .most)
 
 add-gone-2 : tie.Need-add-gone-2 Inv-loop μ-loop
-add-gone-2 c = let s : tie.Start Inv-loop μ-loop = c .before .before .before .before .before .before .before .before in omega (arith, next (c .before .before) .0 .within, s .pre .0 .most)
+add-gone-2 c = let s : tie.Start Inv-loop μ-loop = c .before .before .before .before .before .before .before .before .before .before in omega (arith, next (c .before .before .before .before) .0 .within, s .pre .0 .most)
 
 turn-back-by-requires : tie.Need-turn-back-by-requires Inv-loop μ-loop
 turn-back-by-requires c κs =
-    let s : tie.Start Inv-loop μ-loop = c .before .before .before .before .before .before .before .before .before .before in
-    let (met, h) = next (c .before .before .before .before) in
+    let s : tie.Start Inv-loop μ-loop = c .before .before .before .before .before .before .before .before .before .before .before .before in
+    let (met, h) = next (c .before .before .before .before .before .before) in
     (met .begins .low, omega (arith, met .within, far (c .before .before .before) .within), s .pre .0 .most)
 
 -- the turn goes on by some cycles
 less : (c : tie.After-longest-wait Inv-loop μ-loop) → (
-    let P = c .before .before .before .before .before .before .before .args .b .period in
-    let l = c .before .before .before .before .loop in
-    P - (l .gone + (l .len + c .before .next-stretch .result .gap)) < P - l .gone)
-less c = let (met, h) = next (c .before) in omega (arith, met .within, c .before .before .if2 .taken)
+    let P = c .before .before .before .before .before .before .before .before .before .args .b .period in
+    let l = c .before .before .before .before .before .before .loop in
+    P - (l .gone + (l .len + c .before .before .before .next-stretch .result .gap)) < P - l .gone)
+less c = let (met, h) = next (c .before .before .before) in omega (arith, met .within, c .before .before .before .before .if2 .taken)
 
 loop-less : tie.Need-loop-less Inv-loop μ-loop
 loop-less c = less (c .before .before .before .before)
 
 loop-again : tie.Need-loop-again Inv-loop μ-loop
 loop-again c =
-    let s : tie.Start Inv-loop μ-loop = c .before .before .before .before .before .before .before .before .before .before .before in
+    let d = c .before .before .before .before in
+    let s : tie.Start Inv-loop μ-loop = d .before .before .before .before .before .before .before .before .before in
     let a = s .args in
-    let l = c .before .before .before .before .before .before .before .before .loop in
-    let more = c .before .before .before .before .before .before .if2 .taken in
-    let n = c .before .before .before .before .before .next-stretch in
-    let wait = c .before .before .before .before .longest-wait in
-    let (met, h) = next (c .before .before .before .before .before) in
-    let so = far (c .before .before .before .before) in (
+    let l = d .before .before .before .before .before .before .loop in
+    let n = d .before .before .before .next-stretch in
+    let (met, h) = next (d .before .before .before) in (
       met,
-      so,
-      kept-far (a .b) (s .pre .0) (a .e) (s .pre .1) (s .pre .2) (a .s) (part (c .before .before .before .before .before .before .before .before .before)) (l .x) (l .len) (n .result .gap) (n .result .at) (n .result .len) (l .gone) (wait .result) (l .at) (l .best) more (l .inv .0) (n .ensures .0)
-          met so (l .inv .2) (c .turn-back-by .result) (omega (arith, c .before .before .if3 .taken)) (omega (arith, c .before .if4 .taken)) (c .turn-back-by .ensures),
+      far d .within,
+      far-all d,
+      kept-far (a .b) (s .pre .0) (a .e) (s .pre .1) (s .pre .2) (a .s) (part (d .before .before .before .before .before .before .before)) (l .x) (l .len) (n .result .gap) (n .result .at) (n .result .len) (l .gone) (d .before .if3 .floor) (d .longest-wait .result) (l .at) (l .best) (floor-known (d .before))
+          (d .before .before .before .before .if2 .taken) (l .inv .0) (n .ensures .0) met (far d) (l .inv .3) (c .turn-back-by .result) (omega (arith, c .before .before .if4 .taken)) (omega (arith, c .before .if5 .taken)) (c .turn-back-by .ensures),
       n .ensures .2,
     )
 
 -- the offset is kept
 same : (c : tie.After-longest-wait Inv-loop μ-loop) → (
-    let a = c .before .before .before .before .before .before .before .args in
-    let l = c .before .before .before .before .loop in
-    let n = c .before .next-stretch .result in
+    let a = c .before .before .before .before .before .before .before .before .before .args in
+    let l = c .before .before .before .before .before .before .loop in
+    let n = c .before .before .before .next-stretch .result in
     (a .e ≤ n .len → c .longest-wait .result ≤ l .best) → Kept (a .b) (a .e) (a .s) (l .gone + (l .len + n .gap)) (l .at) (l .best))
 same c =
-    let s : tie.Start Inv-loop μ-loop = c .before .before .before .before .before .before .before in
+    let s : tie.Start Inv-loop μ-loop = c .before .before .before .before .before .before .before .before .before in
     let a = s .args in
-    let l = c .before .before .before .before .loop in
-    let n = c .before .next-stretch in
-    kept-same (a .b) (s .pre .0) (a .e) (s .pre .1) (s .pre .2) (a .s) (part (c .before .before .before .before .before)) (l .x) (l .len) (n .result .gap) (n .result .at) (n .result .len) (l .gone) (c .longest-wait .result) (l .at) (l .best) (c .before .before .if2 .taken) (l .inv .0) (n .ensures .0)
-    (next (c .before) .0) (far c) (l .inv .2)
+    let l = c .before .before .before .before .before .before .loop in
+    let n = c .before .before .before .next-stretch in
+    kept-same (a .b) (s .pre .0) (a .e) (s .pre .1) (s .pre .2) (a .s) (part (c .before .before .before .before .before .before .before)) (l .x) (l .len) (n .result .gap) (n .result .at) (n .result .len) (l .gone) (c .before .if3 .floor) (c .longest-wait .result) (l .at) (l .best) (floor-known (c .before))
+    (c .before .before .before .before .if2 .taken) (l .inv .0) (n .ensures .0) (next (c .before .before .before) .0) (far c) (l .inv .3)
 
 loop-less-2 : tie.Need-loop-less-2 Inv-loop μ-loop
 loop-less-2 c = less (c .before .before .before)
 
 loop-again-2 : tie.Need-loop-again-2 Inv-loop μ-loop
-loop-again-2 c = let d = c .before .before .before in (next (d .before) .0, far d, same d (λ h. omega (arith, c .if4 .left)), d .before .next-stretch .ensures .2)
+loop-again-2 c =
+    let d = c .before .before .before in
+    (next (d .before .before .before) .0, far d .within, far-all d, same d (λ h. omega (arith, c .if5 .left)), d .before .before .before .next-stretch .ensures .2)
 
 loop-less-3 : tie.Need-loop-less-3 Inv-loop μ-loop
 loop-less-3 c = less (c .before .before)
 
 loop-again-3 : tie.Need-loop-again-3 Inv-loop μ-loop
-loop-again-3 c = let d = c .before .before in (next (d .before) .0, far d, same d (λ h. absurd (omega (arith, c .if3 .left))), d .before .next-stretch .ensures .2)
+loop-again-3 c =
+    let d = c .before .before in
+    (next (d .before .before .before) .0, far d .within, far-all d, same d (λ h. absurd (omega (arith, c .if4 .left))), d .before .before .before .next-stretch .ensures .2)
 
 returns-2 : tie.Need-returns-2 Inv-loop μ-loop
 returns-2 c =
     let s : tie.Start Inv-loop μ-loop = c .before .before .before .before .before in
     let a = s .args in
     let l = c .before .before .loop in
-    slowest (a .b) (s .pre .0) (a .e) (s .pre .1) (s .pre .2) (a .s) (part (c .before .before .before)) (l .gone) (l .at) (l .best) (omega (arith, c .if2 .left)) (l .inv .2)
+    slowest (a .b) (s .pre .0) (a .e) (s .pre .1) (s .pre .2) (a .s) (part (c .before .before .before)) (l .gone) (l .at) (l .best) (omega (arith, c .if2 .left)) (l .inv .3)
 
 pub farthest-spec : {M : Type 1} → statement M
 farthest-spec =

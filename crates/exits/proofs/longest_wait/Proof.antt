@@ -1,10 +1,10 @@
--- Who waited for the stretch waits on (`longest-past`), or the first offset that it does not serve waits longest (`longest-near`).
+-- Who waited for the stretch waits on (`longest-past`), or none waits long enough to count (`longest-few`), or the first offset that it does not serve waits longest (`longest-near`).
 use mathlib.Core.Path.{_≡_}
 use mathlib.Core.Logic.{⊎-elim}
 use Prim.Native.Nat.{ℕ, _<_}
 use Rattle.bus.specs.Owning.{owns}
 use Rattle.offsets.specs.Sets.{value}
-use Rattle.exits.proofs.LongestWaits.{longest-past, longest-near}
+use Rattle.exits.proofs.LongestWaits.{longest-past, longest-few, longest-near}
 use native.Mathlib.Omega.{arith}
 use borrow.Author.Needs.{needs}
 use Rattle.exits.proofs.longest_wait.Statement.{statement}
@@ -20,9 +20,23 @@ returns : tie.Need-returns
 returns c =
     let s : tie.Start = c .before .before in
     let a = s .args in
-    λ y gone n l so.
-    longest-past (a .b .period) (owns (a .b)) (value (a .s)) (a .e) (a .x) (a .len) (a .gap) y (a .before) gone n (s .pre .1) l so _
+    λ y gone n l few so.
+    longest-past (a .b .period) (owns (a .b)) (value (a .s)) (a .e) (a .x) (a .len) (a .gap) y (a .before) gone n (s .pre .1) l few so (a .floor) _
     (omega (arith, c .before .if1 .taken)) (omega (arith, c .if2 .taken)) (omega arith)
+
+add-if4 : tie.Need-add-if4
+add-if4 c = search needs
+
+sub-if4 : tie.Need-sub-if4
+sub-if4 c = omega (arith, c .before .before .pre .1)
+
+returns-2 : tie.Need-returns-2
+returns-2 c =
+    let s : tie.Start = c .before .before .before in
+    let a = s .args in
+    λ y gone n l few so.
+    longest-few (a .b .period) (owns (a .b)) (value (a .s)) (a .e) (a .x) (a .len) (a .gap) y (a .before) gone n (s .pre .1) l few so (a .floor)
+    (omega (arith, c .before .if3 .taken)) (omega (arith, c .if4 .taken, s .pre .1))
 
 add-past : tie.Need-add-past
 add-past c = search needs
@@ -57,17 +71,17 @@ smaller-requires-2 c κs = search needs
 sub-result : tie.Need-sub-result
 sub-result c = search needs
 
-returns-2 : tie.Need-returns-2
-returns-2 c =
-    let s : tie.Start = c .before .before .before .before .before in
+returns-3 : tie.Need-returns-3
+returns-3 c =
+    let s : tie.Start = c .before .before .before .before .before .before in
     let a = s .args in
     let less = c .before .before .before .smaller in
     let at = c .before .before .turn-by in
     let free = c .before .ahead in
     let none : a .len < a .e → _≡_ {A = ℕ} (a .before) 0 =
-    λ h. ⊎-elim (λ w. omega (arith, w .1 .left)) (λ w. omega (arith, w .left)) (c .before .before .before .before .if1 .came) in
-    λ y gone n l so.
-    longest-near (a .b .period) (owns (a .b)) (value (a .s)) (a .e) (a .x) (a .len) (a .gap) y (a .before) gone n (s .pre .1) l so _ (at .result) (free .result) _
+    λ h. ⊎-elim (λ w. omega (arith, w .1 .left)) (λ w. omega (arith, w .left)) (c .before .before .before .before .before .if1 .came) in
+    λ y gone n l few so.
+    longest-near (a .b .period) (owns (a .b)) (value (a .s)) (a .e) (a .x) (a .len) (a .gap) y (a .before) gone n (s .pre .1) l few so (a .floor) _ (at .result) (free .result) _
     (omega (arith, less .ensures)) none (at .ensures .1) (free .ensures) (omega (arith, less .ensures, c .smaller2 .ensures))
 
 pub longest-wait-spec : {M : Type 1} → statement M
@@ -77,6 +91,9 @@ longest-wait-spec =
     add-result
     add-result-2
     returns
+    add-if4
+    sub-if4
+    returns-2
     add-past
     add-smaller
     smaller-requires
@@ -88,4 +105,4 @@ longest-wait-spec =
     add-smaller-2
     smaller-requires-2
     sub-result
-    returns-2)
+    returns-3)
