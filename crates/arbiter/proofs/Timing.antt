@@ -10,7 +10,7 @@ use lib.Dec.{leb, eqb}
 use lib.ListN.{length}
 use lib.Seq.{getD-set-same}
 use Prim.Native.Nat.{ℕ, _+_, _-_, _*_, _%_, _≤_, _<_}
-use Rattle.runs.specs.Slots.{Slots, Sound, periodOf, inSlot, equal, equation7}
+use Rattle.runs.specs.Slots.{Slots, HasSlot, periodOf, inSlot, equalSlots, equation7}
 use Rattle.runs.specs.Clock.{State, on, offsets}
 use Rattle.runs.proofs.Accesses.{access-only, access-ends, pass-is}
 use Rattle.runs.proofs.OffsetsLaws.{offsets-turn}
@@ -55,16 +55,16 @@ module _ (v : Slots) (o : ℕ) (r : Registers) where
   stepped-stays t f = stepped-is v o r ∙ ap₂ (λ (b : Bool) (n : ℕ). cond (b || eqb n 2) (countDown r) r) t f
 
 -- core p of a bus, an access of e cycles from the offset o
-module _ (v : Slots) (ok : Sound v) (e : ℕ) (pos : 1 ≤ e) (le : e ≤ v .slot) (o : ℕ) (lt : o < periodOf v) where
+module _ (v : Slots) (ok : HasSlot v) (e : ℕ) (pos : 1 ≤ e) (le : e ≤ v .slot) (o : ℕ) (lt : o < periodOf v) where
   abbrev wait : ℕ
   wait = equation7 v e o
 
   held : (n : ℕ) → n < wait → inSlot v e ((o + n) % periodOf v) ≡ false
-  unfolding equal
+  unfolding equalSlots
   held n h = equation7-is v ok e pos le o lt .0 .1 n h
 
   let-in : inSlot v e ((o + wait) % periodOf v) ≡ true
-  unfolding equal
+  unfolding equalSlots
   let-in = equation7-is v ok e pos le o lt .0 .0
 
   -- what the registers hold after n ticks, until it is done
@@ -235,7 +235,7 @@ module _ (a : Arbiter) (p e : ℕ) (s₀ : Sane a) (t : Taken p e a) where
   abbrev v : Slots
   v = slotsAt a p
 
-  ok : Sound v
+  ok : HasSlot v
   ok = record { slot-pos = formed-true a (s₀ .formed-is) .size .slot-least; core-lt = t .core-lt }
 
   off : a .offset < periodOf v
@@ -352,7 +352,7 @@ clocked-all a (c ∷ cs) (more e qs) n s x =
 
 -- an access of a run from the arbiter's offset takes as many cycles as the device takes ticks
 pub as-the-clock : {a : Arbiter} → Reached a → (p e : ℕ) → answer (Write p 0 e) a ≡ Accepted → AsTheClock a p e
-unfolding equal
+unfolding equalSlots
 as-the-clock {a} re p e x =
     let sn = reached-sane re in
     let t = taken p e a x in
@@ -365,9 +365,9 @@ as-the-clock {a} re p e x =
     record {
       taken = n;
       cycles = λ count s r.
-          let i = access-only (equal v) l q u e (t .pos) (t .le) r lt ∙ pass-is (equal v) l q u n (on (a .offset) count) lt in
+          let i = access-only (equalSlots v) l q u e (t .pos) (t .le) r lt ∙ pass-is (equalSlots v) l q u n (on (a .offset) count) lt in
           (ap (λ (z : State). z .count) i, ap (λ (z : State). z .at) i);
-      some = λ count. (_, access-ends (equal v) l q u e (t .pos) (t .le) (on (a .offset) count) lt);
+      some = λ count. (_, access-ends (equalSlots v) l q u e (t .pos) (t .le) (on (a .offset) count) lt);
       device = on-time re p e x;
     }
 

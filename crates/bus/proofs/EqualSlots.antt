@@ -8,7 +8,7 @@ use lib.ListN.{length, getD}
 use lib.Pow.{pow-pos, pow-mono}
 use Prim.Native.Nat.{ℕ, _+_, _-_, _%_, _^_, _≤_, _<_}
 use Rattle.runs.specs.Bus.{SameBus}
-use Rattle.runs.specs.Slots.{Slots, first, periodOf, equal, Sound}
+use Rattle.runs.specs.Slots.{Slots, first, periodOf, equalSlots, HasSlot}
 use Rattle.runs.specs.Stretches.{IsRun, Begins, NextStretch}
 use Rattle.runs.proofs.Cases.{split, either}
 use Rattle.runs.proofs.SlotsLaws.{slot-in}
@@ -19,18 +19,18 @@ use Rattle.offsets.specs.Sets.{value, has, turnedBy}
 use Rattle.offsets.proofs.Members.{has-lt, has-ones}
 use Rattle.offsets.proofs.Turns.{in-turned, from-turned, turned-lt}
 use Rattle.bus.specs.declared.Bus.{Bus}
-use Rattle.bus.specs.Listed.{after, Listed}
+use Rattle.bus.specs.Stretches.{after, InTurn}
 use Rattle.bus.specs.Owning.{owns, busMeant, Fit, Slotted}
 use Rattle.bus.proofs.Turned.{wrapped}
 
 -- Both are the same bus where it matters.
-pub slotted-bus : (v : Slots) → Sound v → 2 ≤ v .cores → (b : Bus) → Slotted v b → SameBus (busMeant b) (equal v)
+pub slotted-bus : (v : Slots) → HasSlot v → 2 ≤ v .cores → (b : Bus) → Slotted v b → SameBus (busMeant b) (equalSlots v)
 slotted-bus v ok two b x =
     let same : (o : ℕ) → o < periodOf v → owns b o ≡ own v ok two o =
     λ o l. bool-same (owns b o) (own v ok two o)
     (λ h. let (i, j) = x .only-those o (omega (arith, x .period)) h in owns-slot v ok two o i j)
     (λ h. let (i, j) = owns-only v ok two o h in x .inside o i j) in
-    rw (x .period) (subst (λ (B : _). SameBus B (equal v)) (sym (owning-same (periodOf v) (omega (arith, slot-in v ok, ok .slot-pos)) (owns b) (own v ok two) same)) (even-owning v ok two))
+    rw (x .period) (subst (λ (B : _). SameBus B (equalSlots v)) (sym (owning-same (periodOf v) (omega (arith, slot-in v ok, ok .slot-pos)) (owns b) (own v ok two) same)) (even-owning v ok two))
 
 -- ---- n offsets from f on, turned round the period P
 
@@ -59,7 +59,7 @@ no-way h = absurd (not-suc-le-zero h)
 false-of : (t : Bool) → (t ≡ true → 1 ≤ 0) → t ≡ false
 false-of t h = either t (λ e. no-way (h e)) (λ e. e)
 
-module _ (v : Slots) (ok : Sound v) (two : 2 ≤ v .cores) (short : periodOf v ≤ 256) (mine rest : Set)
+module _ (v : Slots) (ok : HasSlot v) (two : 2 ≤ v .cores) (short : periodOf v ≤ 256) (mine rest : Set)
     (em : value mine ≡ turnedBy (periodOf v) (first v) (2 ^ v .slot - 1))
     (er : value rest ≡ turnedBy (periodOf v) (first v + v .slot) (2 ^ (periodOf v - v .slot) - 1)) (bs ls : List ℕ) (bs-long : length bs ≡ 16) (ls-long : length ls ≡ 16)
     (at-begin : getD bs 0 0 ≡ first v) (of-length : getD ls 0 0 ≡ v .slot) where
@@ -129,8 +129,8 @@ module _ (v : Slots) (ok : Sound v) (two : 2 ≤ v .cores) (short : periodOf v �
       (rest-has o (o + P - (f + v .slot)) (omega (arith, in-period))
       (ap (λ (n : ℕ). n % P) (let z : f + v .slot + (o + P - (f + v .slot)) ≡ o + P = omega (arith, in-period) in z) ∙ add-mod-right o P ∙ mod-eq-of-lt l)))
 
-  most-is : equal v .most ≡ v .slot
-  unfolding equal
+  most-is : equalSlots v .most ≡ v .slot
+  unfolding equalSlots
   most-is = refl
 
   begins : Begins P (owns made) f
@@ -157,7 +157,7 @@ module _ (v : Slots) (ok : Sound v) (two : 2 ≤ v .cores) (short : periodOf v �
         fits = omega (arith, in-period);
       }
 
-  listed : Listed P (owns made) (made .stretches)
+  listed : InTurn P (owns made) (made .stretches)
   unfolding after
   listed = record {
     begins-long = bs-long;

@@ -13,7 +13,7 @@ use Rattle.runs.proofs.Cases.{split}
 use Rattle.offsets.specs.Sets.{has, members, Lowest}
 use Rattle.bus.specs.Aheads.{Ahead}
 use Rattle.bus.specs.declared.Stretches.{Stretches}
-use Rattle.bus.specs.Listed.{lengthOf, after, LongestOf, Ordered}
+use Rattle.bus.specs.Stretches.{lengthOf, after, LongestOf, Ordered}
 
 -- ---- how many offsets of a set are below another
 

@@ -18,7 +18,7 @@ use Rattle.offsets.proofs.Members.{same-truth}
 use Rattle.bus.specs.declared.Bus.{Bus}
 use Rattle.bus.specs.declared.Stretches.{Stretches}
 use Rattle.bus.specs.Aheads.{Ahead}
-use Rattle.bus.specs.Listed.{begun, beginOf, lengthOf, after, Listed, LongestOf, Begun, Ordered}
+use Rattle.bus.specs.Stretches.{begun, beginOf, lengthOf, after, InTurn, LongestOf, Begun, Ordered}
 use Rattle.bus.specs.Owning.{Alone, Parted, Fit, Beginnings}
 use Rattle.bus.proofs.Aheads.{stretched}
 use Rattle.bus.proofs.Turned.{wrapped}
@@ -134,7 +134,7 @@ module _ {own rest : Set} {P : ℕ} (fit : Parted own rest P) (s : Set) (at : Be
               (λ u. no-begin ((x + k) % P) (x + k) (mod-eq-of-lt u) (none (x + k) (omega arith) u))),
         )
 
-    listed : Listed P owns v
+    listed : InTurn P owns v
     unfolding after
     listed = record {
       begins-long = h .begins-long;

@@ -1,12 +1,12 @@
 -- What the ranges of tag 1 give: the laws about equal slots hold of such a bus, and so does that of the three cases.
 use Prim.Native.Nat.{ℕ, _+_, _*_, _≤_}
-use Rattle.runs.specs.Slots.{Sound}
+use Rattle.runs.specs.Slots.{HasSlot}
 use Rattle.runs.proofs.SlotsLaws.{slot-in}
 use Rattle.runs.proofs.ThreeCases.{OneCase, three-cases}
 use Rattle.bus.specs.declared.Slots.{Slots}
 use Rattle.bus.specs.Waits.{slotsOf, Ranges, Ready}
 
-pub slots-sound : (v : Slots) → Ranges v → Sound (slotsOf v)
+pub slots-sound : (v : Slots) → Ranges v → HasSlot (slotsOf v)
 slots-sound v r = record { slot-pos = r .slot-least; core-lt = r .core-lt }
 
 -- the core's slot lies within the period

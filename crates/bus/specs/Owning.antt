@@ -9,7 +9,7 @@ use Rattle.runs.specs.Stretches.{IsRun, Begins}
 use Rattle.offsets.specs.declared.Set.{Set}
 use Rattle.offsets.specs.Sets.{value, has}
 use Rattle.bus.specs.declared.Bus.{Bus}
-use Rattle.bus.specs.Listed.{Nth, Listed}
+use Rattle.bus.specs.Stretches.{Nth, InTurn}
 
 -- whether the core owns an offset
 abbrev pub owns : Bus → ℕ → Bool
@@ -47,7 +47,7 @@ pub record Fit (b : Bus) : Type 0 where
   pub begins : b .most < b .period → Begins (b .period) (owns b) (b .first)
   pub run : b .most < b .period → IsRun (b .period) (owns b) (b .first) (b .most)
   pub nth : b .most < b .period → Nth (b .stretches) (b .longest) (b .first) (b .most)
-  pub listed : b .most < b .period → Listed (b .period) (owns b) (b .stretches)
+  pub listed : b .most < b .period → InTurn (b .period) (owns b) (b .stretches)
   pub lone : 1 ≤ b .only → Alone b
   pub some : (o : ℕ) × (o < b .period) × (has (value (b .own)) o ≡ true)
 

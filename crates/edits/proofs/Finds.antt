@@ -12,7 +12,7 @@ use Rattle.image.specs.Fields.{plainOk}
 use Rattle.image.specs.Judged.{judged}
 use Rattle.image.specs.declared.Refusal.{Refusal}
 use Rattle.image.specs.declared.Refusal.the-variants.{Value, Block}
-use Rattle.image.specs.declared.Task.{Task}
+use Rattle.image.specs.declared.Outline.{Outline}
 use Rattle.image.specs.declared.Verdict.{Verdict}
 use Rattle.image.specs.declared.Verdict.the-variants.{Accepted, Refused}
 use Rattle.image.proofs.Kept.{durations-kept, kept-durations}
@@ -26,7 +26,7 @@ use Rattle.edits.proofs.Plain.{node-was, is-plain, plain-is}
 use Rattle.edits.proofs.Standing.{inside}
 
 -- what `find` knows where it has read the tag of the node's field
-pub record Tagged (s : List ℕ) (node : ℕ) (k : Task) (at tag : ℕ) : Type 0 where
+pub record Tagged (s : List ℕ) (node : ℕ) (k : Outline) (at tag : ℕ) : Type 0 where
   pub judged-so : judged s ≡ Accepted k
   pub exists : node < k .nodes
   pub place : at ≡ placeOf s node
@@ -42,11 +42,11 @@ module _ (s : List ℕ) (node lo hi : ℕ) where
   unfolding found
   refused-found r place e = not-there r place (rw e)
 
-  pub none-found : (k : Task) → judged s ≡ Accepted k → k .nodes ≤ node → Finding s node lo hi (NotFound Block (length s))
+  pub none-found : (k : Outline) → judged s ≡ Accepted k → k .nodes ≤ node → Finding s node lo hi (NotFound Block (length s))
   unfolding found
   none-found k e l = not-there Block (length s) (rw (e, le-ltb node (k .nodes) l))
 
-  module _ (k : Task) (at tag : ℕ) (t : Tagged s node k at tag) where
+  module _ (k : Outline) (at tag : ℕ) (t : Tagged s node k at tag) where
     tag-is : tag ≡ byteAt s (placeOf s node)
     tag-is = t .read ∙ ap (byteAt s) (t .place)
 
@@ -71,7 +71,7 @@ module _ (s : List ℕ) (node lo hi : ℕ) where
       at-found p =
           let a = when-accepted s k (t .judged-so) in
           let r = durations-kept lo hi p in
-          let d : Editable s node lo hi = record { task = k; accepting = a; block = record { exists = t .exists; plain = (_, _, node-was s node plain) }; durations = r } in
+          let d : Editable s node lo hi = record { outline = k; accepting = a; block = record { exists = t .exists; plain = (_, _, node-was s node plain) }; durations = r } in
           record {
             is = sym (by-range true p);
             at = λ place q.
@@ -123,7 +123,7 @@ module _ (s : List ℕ) (node lo hi : ℕ) where
   -- the edit is done if and only if it is possible
   pub found-when : Editable s node lo hi → found s node lo hi ≡ At (placeOf s node)
   unfolding found
-  found-when d = rw (accepted-when s (d .task) (d .accepting), is-plain s node (d .task) (d .block), kept-durations lo hi (d .durations))
+  found-when d = rw (accepted-when s (d .outline) (d .accepting), is-plain s node (d .outline) (d .block), kept-durations lo hi (d .durations))
 
   pub when-found : (place : ℕ) → found s node lo hi ≡ At place → Editable s node lo hi
   unfolding found
@@ -134,6 +134,6 @@ module _ (s : List ℕ) (node lo hi : ℕ) where
       by-verdict (Accepted k) e q =
           either (isPlain s k node)
           (λ t. either (plainOk lo hi)
-          (λ u. record { task = k; accepting = when-accepted s k e; block = plain-is s node k t; durations = durations-kept lo hi u })
+          (λ u. record { outline = k; accepting = when-accepted s k e; block = plain-is s node k t; durations = durations-kept lo hi u })
           (λ u. absurd (let f = rw (t, u) at q in let z : _≡_ {A = ℕ} 0 1 = cc in omega arith)))
           (λ t. absurd (let f = rw t at q in let z : _≡_ {A = ℕ} 0 1 = cc in omega arith))

@@ -41,7 +41,7 @@ module _ (s : List ℕ) (node lo hi : ℕ) (d : Editable s node lo hi) (small : 
   -- the old durations are in range, so that the edit can be undone, and then restores the bytes
   module _ (l h : ℕ) (was : nodeAt s node ≡ Node.plain l h) where
     tag : byteAt s (placeOf s node) ≡ 3
-    tag = tag-of s node (d .task) (d .block)
+    tag = tag-of s node (d .outline) (d .block)
 
     old : Node.plain (wordAt s (placeOf s node + 3)) (wordAt s (placeOf s node + 3 + 2)) ≡ Node.plain l h
     old = sym (node-was s node tag) ∙ was
@@ -58,7 +58,7 @@ module _ (s : List ℕ) (node lo hi : ℕ) (d : Editable s node lo hi) (small : 
 
     undoable : Editable (imageWith s node lo hi) node l h
     undoable = record {
-      task = d .task;
+      outline = d .outline;
       accepting = still-accepting s node lo hi d;
       block = record { exists = d .block .exists; plain = (lo, hi, node-same s node lo hi d) };
       durations = durations-kept l h old-range;
@@ -72,7 +72,7 @@ module _ (s : List ℕ) (node lo hi : ℕ) (d : Editable s node lo hi) (small : 
     pub undone : Restores s node l h (imageWith s node lo hi)
     undone = record { possible = undoable; bytes = edit-is (imageWith s node lo hi) node l h undoable ∙ back }
 
-  pub leaves : Leaves s (d .task) node lo hi (imageWith s node lo hi)
+  pub leaves : Leaves s (d .outline) node lo hi (imageWith s node lo hi)
   leaves = record {
     accepted = still-accepted s node lo hi d;
     long = long s node lo hi d;

@@ -15,7 +15,7 @@ use Rattle.image.specs.declared.nodes.BusBlock.{BusBlock}
 use Rattle.image.specs.declared.nodes.Once.{Once as OnceNumbers}
 use Rattle.image.specs.declared.nodes.Children.{Children}
 use Rattle.image.specs.declared.nodes.Loop.{Loop as LoopNumbers}
-use Rattle.image.specs.declared.Task.{Task}
+use Rattle.image.specs.declared.Outline.{Outline}
 use Rattle.schedule.proofs.Numbers.{both}
 use Rattle.edits.specs.Edits.{placeOf, isPlain}
 use Rattle.edits.specs.Promise.{PlainBlock}
@@ -44,7 +44,7 @@ module _ (s : List ℕ) (node : ℕ) where
   unfolding nodeAt nodeFrom meant
   node-was tag = rw tag
 
-  module _ (k : Task) where
+  module _ (k : Outline) where
     pub tag-of : PlainBlock s k node → byteAt s (placeOf s node) ≡ 3
     tag-of p = tag-plain (p .plain .0) (p .plain .1) (p .plain .2)
 

@@ -117,32 +117,32 @@ module _ (s : List ℕ) (node lo hi : ℕ) (f : Found) (h : Finding s node lo hi
       }
 
       pub done-done : ((i : ℕ) → byteAt s i < 256) → EditDone s node lo hi Done after
-      done-done small d = (refl, subst (Leaves s (d .task) node lo hi) (sym (w ∙ there)) (leaves s node lo hi d small))
+      done-done small d = (refl, subst (Leaves s (d .outline) node lo hi) (sym (w ∙ there)) (leaves s node lo hi d small))
 
     -- the figures of the copy
     module _ (before : List ℕ) (r : Answer) (after : List ℕ) (g : Equal (withDurations s (place + 3) lo hi) before r after) where
       -- of the edited image and the same task, with 10 last
       answered : (d : Editable s node lo hi) → resultOf r
-          ≡ cond (ltb (length before) (d .task .period)) (refused 10 (length s)) (figuresOf (taskOf (imageWith s node lo hi) (d .task)))
+          ≡ cond (ltb (length before) (d .outline .period)) (refused 10 (length s)) (figuresOf (taskOf (imageWith s node lo hi) (d .outline)))
       answered d = rw (still-accepted s node lo hi d, long s node lo hi d) at (rw there at (g .result))
 
       only-table : (x : Refusal) (p : ℕ) → r ≡ NotGiven x p → PreviewCondition s node lo hi before x p
       only-table x p q =
           let d = when-found s node lo hi place at-place in
-          by-length d (ltb (length before) (d .task .period)) refl (sym (ap resultOf q) ∙ answered d)
+          by-length d (ltb (length before) (d .outline .period)) refl (sym (ap resultOf q) ∙ answered d)
         where
-          by-length : (d : Editable s node lo hi) (t : Bool) → ltb (length before) (d .task .period) ≡ t
-              → refused (numberOf x) p ≡ cond t (refused 10 (length s)) (figuresOf (taskOf (imageWith s node lo hi) (d .task)))
+          by-length : (d : Editable s node lo hi) (t : Bool) → ltb (length before) (d .outline .period) ≡ t
+              → refused (numberOf x) p ≡ cond t (refused 10 (length s)) (figuresOf (taskOf (imageWith s node lo hi) (d .outline)))
               → PreviewCondition s node lo hi before x p
           by-length d true l w =
               let a : Table ≡ x = sym (is-table x (let n : numberOf x ≡ 10 = cc in n)) in
               let b : length s ≡ p = cc in
-              rw (← a, ← b) (short-table d (omega (arith, ltb-true (length before) (d .task .period) l)))
+              rw (← a, ← b) (short-table d (omega (arith, ltb-true (length before) (d .outline .period) l)))
           by-length d false l w = absurd (let z : _≡_ {A = ℕ} 0 1 = cc in omega arith)
 
       when-table : (x : Refusal) (p : ℕ) → PreviewCondition s node lo hi before x p → r ≡ NotGiven x p
       when-table x p (no-edit _ _ c) = absurd (not-refused x p (edit-whenever s node lo hi x p c))
-      when-table Table _ (short-table d l) = by-answer r (rw (lt-ltb (length before) (d .task .period) (omega (arith, l))) at (answered d))
+      when-table Table _ (short-table d l) = by-answer r (rw (lt-ltb (length before) (d .outline .period) (omega (arith, l))) at (answered d))
         where
           by-answer : (x : Answer) → resultOf x ≡ refused 10 (length s) → x ≡ NotGiven Table (length s)
           by-answer (Given t) w = absurd (let z : _≡_ {A = ℕ} 0 1 = cc in omega arith)
@@ -151,9 +151,9 @@ module _ (s : List ℕ) (node lo hi : ℕ) (f : Found) (h : Finding s node lo hi
               let b : p ≡ length s = cc in
               rw (is-table y n, b)
 
-      enough : (d : Editable s node lo hi) (t : Totals) → r ≡ Given t → d .task .period ≤ length before
+      enough : (d : Editable s node lo hi) (t : Totals) → r ≡ Given t → d .outline .period ≤ length before
       enough d t q =
-          split (d .task .period) (length before) (λ l. omega (arith, l))
+          split (d .outline .period) (length before) (λ l. omega (arith, l))
           (λ l. absurd (let w = when-table Table (length s) (short-table d l) in let z : _≡_ {A = ℕ} 0 1 = cc in omega arith))
 
       pub preview-given : Previewing s node lo hi before r after
@@ -169,10 +169,10 @@ module _ (s : List ℕ) (node lo hi : ℕ) (f : Found) (h : Finding s node lo hi
       module _ (d3 : Demand3 (withDurations s (place + 3) lo hi) r after) (d2 : Demand2 (withDurations s (place + 3) lo hi) r) where
         pub given-foreseen : PreviewGiven s node lo hi before r after
         given-foreseen d l =
-            by-answer r refl (rw (le-ltb (length before) (d .task .period) (omega (arith, l))) at (answered d))
+            by-answer r refl (rw (le-ltb (length before) (d .outline .period) (omega (arith, l))) at (answered d))
           where
-            by-answer : (x : Answer) → r ≡ x → resultOf x ≡ figuresOf (taskOf (imageWith s node lo hi) (d .task)) → Foreseen (imageWith s node lo hi) (d .task) r after
+            by-answer : (x : Answer) → r ≡ x → resultOf x ≡ figuresOf (taskOf (imageWith s node lo hi) (d .outline)) → Foreseen (imageWith s node lo hi) (d .outline) r after
             by-answer (Given t) q w =
                 let a = still-accepted s node lo hi d in
-                record { totals = t; given = q; demand3 = (rw there at d3) (d .task) t a q; demand2 = (rw there at d2) (d .task) t a q }
+                record { totals = t; given = q; demand3 = (rw there at d3) (d .outline) t a q; demand2 = (rw there at d2) (d .outline) t a q }
             by-answer (NotGiven x p) q w = absurd (let z : _≡_ {A = ℕ} 0 1 = cc in omega arith)

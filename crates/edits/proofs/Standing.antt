@@ -47,14 +47,14 @@ module _ (s : List ℕ) (node lo hi : ℕ) (d : Editable s node lo hi) where
   abbrev Same : ℕ → ℕ → Type 0
   Same place n = Agree s after place place n
 
-  good : (j : ℕ) → j < d .task .nodes + 2 → GoodField s j
+  good : (j : ℕ) → j < d .outline .nodes + 2 → GoodField s j
   good j l = d .accepting .complete .passed j l
 
   here : GoodField s (node + 2)
   here = good (node + 2) (omega (arith, d .block .exists))
 
   tag : byteAt s (placeOf s node) ≡ 3
-  tag = tag-of s node (d .task) (d .block)
+  tag = tag-of s node (d .outline) (d .block)
 
   four : lengthAt s (node + 2) ≡ 4
   unfolding lengthOk
@@ -117,7 +117,7 @@ module _ (s : List ℕ) (node lo hi : ℕ) (d : Editable s node lo hi) where
   starts-same = rw (place-same 1, length-same 1) (agree-bytes s after (bodyAt s 1) (bodyAt s 1) (lengthAt s 1) (body-before 1 (omega arith)))
 
   -- a field whose numbers keep their row's rules is good
-  still-good : (j : ℕ) → j < d .task .nodes + 2 → valueOk after (tagAt s j) (bodyAt s j) (lengthAt s j) ≡ true
+  still-good : (j : ℕ) → j < d .outline .nodes + 2 → valueOk after (tagAt s j) (bodyAt s j) (lengthAt s j) ≡ true
       → childrenOk after (tagAt s j) (bodyAt s j) (lengthAt s j) j ≡ true → GoodField after j
   still-good j l v c =
       let g = good j l in
@@ -132,7 +132,7 @@ module _ (s : List ℕ) (node lo hi : ℕ) (d : Editable s node lo hi) where
       }
 
   -- such as one with the same body
-  body-good : (j : ℕ) → j < d .task .nodes + 2 → Same (bodyAt s j) (lengthAt s j) → GoodField after j
+  body-good : (j : ℕ) → j < d .outline .nodes + 2 → Same (bodyAt s j) (lengthAt s j) → GoodField after j
   body-good j l h =
       let g = good j l in
       let c = covers-row (tagAt s j) (lengthAt s j) (g .len) in
@@ -152,7 +152,7 @@ module _ (s : List ℕ) (node lo hi : ℕ) (d : Editable s node lo hi) where
   own-good =
       still-good (node + 2) (omega (arith, d .block .exists)) (rw (tag, lowest, highest) (kept-durations lo hi (d .durations))) (rw tag)
 
-  all-good : (j : ℕ) → j < d .task .nodes + 2 → GoodField after j
+  all-good : (j : ℕ) → j < d .outline .nodes + 2 → GoodField after j
   all-good j l =
       split (node + 2) j
       (λ p. split j (node + 2)
@@ -161,7 +161,7 @@ module _ (s : List ℕ) (node lo hi : ℕ) (d : Editable s node lo hi) where
       (λ p. body-good j l (body-before j p))
 
   -- every other node says what it said
-  pub node-other : (n : ℕ) → n < d .task .nodes → (n ≡ node → ⊥) → nodeAt after n ≡ nodeAt s n
+  pub node-other : (n : ℕ) → n < d .outline .nodes → (n ≡ node → ⊥) → nodeAt after n ≡ nodeAt s n
   unfolding nodeAt
   node-other n l ne =
       let g = good (n + 2) (omega arith) in
@@ -182,7 +182,7 @@ module _ (s : List ℕ) (node lo hi : ℕ) (d : Editable s node lo hi) where
   node-same = rw (place-same (node + 2), tag-same (node + 2), tag) (rw (lowest, highest))
 
   -- so depth, visits and lines stay
-  alike : (n : ℕ) → n < suc (d .task .entry) → Alike (nodeAt s n) (nodeAt after n)
+  alike : (n : ℕ) → n < suc (d .outline .entry) → Alike (nodeAt s n) (nodeAt after n)
   alike n l =
       split node n
       (λ p. split n node
@@ -190,31 +190,31 @@ module _ (s : List ℕ) (node lo hi : ℕ) (d : Editable s node lo hi) where
       (λ m. other n l (λ q. omega arith)))
       (λ p. other n l (λ q. omega arith))
     where
-      other : (n : ℕ) → n < suc (d .task .entry) → (n ≡ node → ⊥) → Alike (nodeAt s n) (nodeAt after n)
+      other : (n : ℕ) → n < suc (d .outline .entry) → (n ≡ node → ⊥) → Alike (nodeAt s n) (nodeAt after n)
       other n l ne = rw (node-other n (omega (arith, d .accepting .last)) ne) (same (nodeAt s n))
 
-  pub weight-same : (n : ℕ) → n < suc (d .task .entry) → Equally (treeAt s n) (treeAt after n)
+  pub weight-same : (n : ℕ) → n < suc (d .outline .entry) → Equally (treeAt s n) (treeAt after n)
   weight-same n l =
-      equally (nodeAt s) (nodeAt after) (suc (d .task .entry))
-      (falls s (d .task .entry) (fewer s (d .task .entry + 3) (d .task .nodes + 2) (omega (arith, d .accepting .last)) (d .accepting .complete .passed)))
+      equally (nodeAt s) (nodeAt after) (suc (d .outline .entry))
+      (falls s (d .outline .entry) (fewer s (d .outline .entry + 3) (d .outline .nodes + 2) (omega (arith, d .accepting .last)) (d .accepting .complete .passed)))
       alike n l
 
   -- and the image stays accepted
-  pub still-accepting : Accepting after (d .task)
+  pub still-accepting : Accepting after (d .outline)
   still-accepting =
       let a = d .accepting in
-      let w = weight-same (d .task .entry) (omega arith) in
+      let w = weight-same (d .outline .entry) (omega arith) in
       record {
-        complete = record { passed = all-good; ends = place-same (d .task .nodes + 2) ∙ a .complete .ends ∙ sym long };
+        complete = record { passed = all-good; ends = place-same (d .outline .nodes + 2) ∙ a .complete .ends ∙ sym long };
         last = a .last;
         shallow = rw (← (w .deep)) (a .shallow);
         short = rw (← (w .long)) (a .short);
         period = rw bus-same (a .period);
         starts = a .starts ∙ sym starts-word;
-        lines = a .lines ∙ lines-same (nodeAt s) (nodeAt after) (d .task .nodes) (λ i l. alike i (omega (arith, a .last)));
+        lines = a .lines ∙ lines-same (nodeAt s) (nodeAt after) (d .outline .nodes) (λ i l. alike i (omega (arith, a .last)));
         sets = a .sets;
         narrow = rw bus-same (a .narrow);
       }
 
-  pub still-accepted : judged after ≡ Accepted (d .task)
-  still-accepted = accepted-when after (d .task) still-accepting
+  pub still-accepted : judged after ≡ Accepted (d .outline)
+  still-accepted = accepted-when after (d .outline) still-accepting

@@ -3,7 +3,7 @@ use mathlib.Core.Path.{_≡_, refl}
 use mathlib.Core.List.{List, [], _∷_}
 use lib.ListN.{replicate}
 use Prim.Native.Nat.{ℕ}
-use Rattle.runs.specs.Slots.{equal, equation7}
+use Rattle.runs.specs.Slots.{equalSlots, equation7}
 use Rattle.runs.specs.Lines.{power}
 use Rattle.runs.specs.Clock.{withLines}
 use Rattle.runs.specs.Nodes.{trees, treeBy, treeTo, tree, depth, visits, linesTo}
@@ -45,7 +45,7 @@ record Worked : Type 0 where
   kept : previewTable (arms 3 7) 1 8 7 (replicate 9 0) ≡ replicate 9 0
 
 worked : Worked
-unfolding wordAt words bytes tagOk lengthOk busOk said startsOk plainOk accessOk blockOk loopOk valueOk below childrenOk fieldOf fieldAt nodeFrom meant nodeAt trees treeBy treeTo tree depth visits power linesTo scanFrom scan wholeOf judged equal equation7 withLines carried startTimes startSet longer later longestOf atOffsets cost entryOf held sum withDurations found
+unfolding wordAt words bytes tagOk lengthOk busOk said startsOk plainOk accessOk blockOk loopOk valueOk below childrenOk fieldOf fieldAt nodeFrom meant nodeAt trees treeBy treeTo tree depth visits power linesTo scanFrom scan wholeOf judged equalSlots equation7 withLines carried startTimes startSet longer later longestOf atOffsets cost entryOf held sum withDurations found
 worked = record {
   is-done = refl;
   first-arm = refl;
@@ -69,5 +69,5 @@ worked = record {
 
 -- so there are possible edits
 possible : Editable (arms 3 7) 1 8 8
-unfolding wordAt words tagOk lengthOk busOk said startsOk plainOk accessOk blockOk loopOk valueOk below childrenOk fieldOf fieldAt nodeFrom meant nodeAt trees treeBy treeTo tree depth visits power linesTo scanFrom scan wholeOf judged equal found
+unfolding wordAt words tagOk lengthOk busOk said startsOk plainOk accessOk blockOk loopOk valueOk below childrenOk fieldOf fieldAt nodeFrom meant nodeAt trees treeBy treeTo tree depth visits power linesTo scanFrom scan wholeOf judged equalSlots found
 possible = when-found (arms 3 7) 1 8 8 17 refl

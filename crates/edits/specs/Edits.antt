@@ -10,7 +10,7 @@ use Rattle.image.specs.Nodes.{fieldAt}
 use Rattle.image.specs.Conditions.{tagAt, bodyAt}
 use Rattle.image.specs.Judged.{numberOf, judged}
 use Rattle.image.specs.declared.Refusal.the-variants.{Value, Block}
-use Rattle.image.specs.declared.Task.{Task}
+use Rattle.image.specs.declared.Outline.{Outline}
 use Rattle.image.specs.declared.Verdict.{Verdict}
 use Rattle.image.specs.declared.Verdict.the-variants.{Accepted, Refused}
 use Rattle.figures.specs.Answers.{Result, answer, tableAfter}
@@ -33,7 +33,7 @@ abbrev pub imageWith : List ℕ → ℕ → ℕ → ℕ → List ℕ
 imageWith s node lowest highest = withDurations s (bodyAt s (node + 2)) lowest highest
 
 -- not 19: the node exists, and its field's tag is that of a plain block
-abbrev pub isPlain : List ℕ → Task → ℕ → Bool
+abbrev pub isPlain : List ℕ → Outline → ℕ → Bool
 isPlain s k node = ltb node (k .nodes) && eqb (tagAt s (node + 2)) 3
 
 -- "Unaccepted images are refused first, by their own numbers"; then 19, "with the image's length as place", "judged before that 5", and

@@ -12,7 +12,7 @@ use Rattle.image.specs.Promise.{Durations}
 use Rattle.image.specs.Judged.{judged}
 use Rattle.image.specs.declared.Refusal.{Refusal}
 use Rattle.image.specs.declared.Refusal.the-variants.{Value, Table, Block}
-use Rattle.image.specs.declared.Task.{Task}
+use Rattle.image.specs.declared.Outline.{Outline}
 use Rattle.image.specs.declared.Verdict.the-variants.{Accepted}
 use Rattle.figures.specs.declared.Totals.{Totals}
 use Rattle.figures.specs.declared.Answer.{Answer}
@@ -27,15 +27,15 @@ use Rattle.edits.specs.declared.Edited.the-variants.{Done, Refused as No
 -- ---- when an edit is possible, and when it is refused
 
 -- the node exists, and is plain
-pub record PlainBlock (s : List ℕ) (k : Task) (node : ℕ) : Type 0 where
+pub record PlainBlock (s : List ℕ) (k : Outline) (node : ℕ) : Type 0 where
   pub exists : node < k .nodes
   pub plain : (lowest highest : ℕ) × (nodeAt s node ≡ Node.plain lowest highest)
 
 -- an edit is possible: an accepted image, such a block, and durations that keep its row's rule
 pub record Editable (s : List ℕ) (node lowest highest : ℕ) : Type 0 where
-  pub task : Task
-  pub accepting : Accepting s task
-  pub block : PlainBlock s task node
+  pub outline : Outline
+  pub accepting : Accepting s outline
+  pub block : PlainBlock s outline node
   pub durations : Durations lowest highest
 
 -- for what an edit is refused, and at which place
@@ -43,15 +43,15 @@ pub data EditCondition (s : List ℕ) (node lowest highest : ℕ) : Refusal → 
   -- "Unaccepted images are refused first, by their own numbers"
   unaccepted : (r : Refusal) (place : ℕ) → Condition s r place → EditCondition s node lowest highest r place
   -- 19: "the node does not exist or is not plain"
-  no-block : (k : Task) → Accepting s k → (PlainBlock s k node → ⊥) → EditCondition s node lowest highest Block (length s)
+  no-block : (k : Outline) → Accepting s k → (PlainBlock s k node → ⊥) → EditCondition s node lowest highest Block (length s)
   -- 5: "durations out of range get 5 at that block's field"
-  out-of-range : (k : Task) → Accepting s k → PlainBlock s k node → (Durations lowest highest → ⊥)
+  out-of-range : (k : Outline) → Accepting s k → PlainBlock s k node → (Durations lowest highest → ⊥)
       → EditCondition s node lowest highest Value (placeOf s node)
 
 -- and a preview: "10 is judged last"
 pub data PreviewCondition (s : List ℕ) (node lowest highest : ℕ) (table : List ℕ) : Refusal → ℕ → Type 0 where
   no-edit : (r : Refusal) (place : ℕ) → EditCondition s node lowest highest r place → PreviewCondition s node lowest highest table r place
-  short-table : (e : Editable s node lowest highest) → length table < e .task .period
+  short-table : (e : Editable s node lowest highest) → length table < e .outline .period
       → PreviewCondition s node lowest highest table Table (length s)
 
 -- ---- `edit`, over the image at entry and at exit
@@ -70,7 +70,7 @@ pub record Restores (s : List ℕ) (node l h : ℕ) (after : List ℕ) : Type 0 
   pub bytes : imageAfter after node l h ≡ s
 
 -- what an edit that is done leaves of the image s and its task k
-pub record Leaves (s : List ℕ) (k : Task) (node lowest highest : ℕ) (after : List ℕ) : Type 0 where
+pub record Leaves (s : List ℕ) (k : Outline) (node lowest highest : ℕ) (after : List ℕ) : Type 0 where
   -- an accepted image: the same bus, number of starts, nodes and entry
   pub accepted : judged after ≡ Accepted k
   -- "alters no others"
@@ -87,7 +87,7 @@ pub record Leaves (s : List ℕ) (k : Task) (node lowest highest : ℕ) (after :
 
 -- an edit that is possible is done
 abbrev pub EditDone : List ℕ → ℕ → ℕ → ℕ → Edited → List ℕ → Type 0
-EditDone s node lowest highest r after = (e : Editable s node lowest highest) → (r ≡ Done) × Leaves s (e .task) node lowest highest after
+EditDone s node lowest highest r after = (e : Editable s node lowest highest) → (r ≡ Done) × Leaves s (e .outline) node lowest highest after
 
 -- ---- `preview`, over the table at entry and at exit; the image is lent as `&` and stays
 
@@ -97,10 +97,10 @@ pub record Previewing (s : List ℕ) (node lowest highest : ℕ) (before : List 
   pub table : after ≡ previewTable s node lowest highest before
   pub because : (x : Refusal) (place : ℕ) → r ≡ NotGiven x place → PreviewCondition s node lowest highest before x place
   pub whenever : (x : Refusal) (place : ℕ) → PreviewCondition s node lowest highest before x place → r ≡ NotGiven x place
-  pub possible : (f : Totals) → r ≡ Given f → (e : Editable s node lowest highest) × (e .task .period ≤ length before)
+  pub possible : (f : Totals) → r ≡ Given f → (e : Editable s node lowest highest) × (e .outline .period ≤ length before)
 
 -- figures are given, and demands 3 and 2 hold of them and of the task k that the image s says
-pub record Foreseen (s : List ℕ) (k : Task) (r : Answer) (after : List ℕ) : Type 0 where
+pub record Foreseen (s : List ℕ) (k : Outline) (r : Answer) (after : List ℕ) : Type 0 where
   pub totals : Totals
   pub given : r ≡ Given totals
   pub demand3 : WholeRuns (taskOf s k) (totals .tight) (totals .published) (totals .exits) after
@@ -108,5 +108,5 @@ pub record Foreseen (s : List ℕ) (k : Task) (r : Answer) (after : List ℕ) : 
 
 -- of an edit that is possible, with a place for each offset: figures of the edited image
 abbrev pub PreviewGiven : List ℕ → ℕ → ℕ → ℕ → List ℕ → Answer → List ℕ → Type 0
-PreviewGiven s node lowest highest before r after = (e : Editable s node lowest highest) → e .task .period ≤ length before
-    → Foreseen (imageWith s node lowest highest) (e .task) r after
+PreviewGiven s node lowest highest before r after = (e : Editable s node lowest highest) → e .outline .period ≤ length before
+    → Foreseen (imageWith s node lowest highest) (e .outline) r after

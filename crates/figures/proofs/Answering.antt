@@ -8,14 +8,14 @@ use Rattle.runs.specs.Figures.{longestOf, published, tight}
 use Rattle.schedule.specs.Said.{said}
 use Rattle.image.specs.Nodes.{taskOf}
 use Rattle.image.specs.declared.Refusal.the-variants.{Table}
-use Rattle.image.specs.declared.Task.{Task}
+use Rattle.image.specs.declared.Outline.{Outline}
 use Rattle.times.specs.Arrays.{timeOf, tableOf}
 use Rattle.figures.specs.declared.Totals.{Totals}
 use Rattle.figures.specs.declared.Answer.the-variants.{Given, Refused as NotGiven}
 use Rattle.figures.specs.Steps.{Ended, Answered, holding}
 use Rattle.figures.proofs.Entries.{tight-entry, count-entries, table-entries}
 
-module _ (s : List ℕ) (k : Task) (before : List ℕ) where
+module _ (s : List ℕ) (k : Outline) (before : List ℕ) where
   -- fewer than P places lent
   pub answered-short : length before < k .period → Answered s k before (NotGiven Table (length s)) before
   answered-short h = record {

@@ -20,7 +20,7 @@ use Rattle.schedule.proofs.Writings.{evenly}
 use Rattle.image.specs.Nodes.{nodeAt, taskOf}
 use Rattle.image.specs.Judged.{judged}
 use Rattle.image.specs.Moved.{moved}
-use Rattle.image.specs.declared.Task.{Task}
+use Rattle.image.specs.declared.Outline.{Outline}
 use Rattle.image.specs.declared.Verdict.{Verdict}
 use Rattle.image.specs.declared.Verdict.the-variants.{Accepted, Refused}
 use Rattle.image.proofs.SameRest.{long, judged-moved, nodes-same, starts-same}
@@ -45,13 +45,13 @@ module _ (v : Slots) (h : Ranges v) (rest table : List ℕ) where
   verdicts = judged-moved (slotsField (slotsOf v)) (turnsField (evenly v h)) rest d (instead v h rest)
 
   -- the tasks differ in how the bus is written alone
-  tasks : (k : Task) → onBus (said one) (taskOf nine k) ≡ taskOf one k
+  tasks : (k : Outline) → onBus (said one) (taskOf nine k) ≡ taskOf one k
   tasks k =
       ap₂ (λ (f : ℕ → Node) (l : List ℕ). record { bus = said one; starts = l; lines = k .lines; nodeAt = f; entry = k .entry })
       (nodes-same (slotsField (slotsOf v)) (turnsField (evenly v h)) rest d (instead v h rest))
       (starts-same (slotsField (slotsOf v)) (turnsField (evenly v h)) rest d (instead v h rest))
 
-  same : (k : Task) → judged nine ≡ Accepted k → SameAnswers (taskOf nine k) (taskOf one k)
+  same : (k : Outline) → judged nine ≡ Accepted k → SameAnswers (taskOf nine k) (taskOf one k)
   same k e = rw (tasks k) at (same-answers (taskOf nine k) (said one) (accepted nine k e) (same-said v h rest))
 
   by-room : (t : Bool) (tight published exits place : ℕ)
@@ -88,7 +88,7 @@ split-off s l e w =
     let c : byteAt s 2 ≡ 3 = omega arith in
     rw (e, b, c) at (front 6 s l)
 
-module _ (s table : List ℕ) (k : Task) (ok : judged s ≡ Accepted k) (tag : byteAt s 0 ≡ 1) where
+module _ (s table : List ℕ) (k : Outline) (ok : judged s ≡ Accepted k) (tag : byteAt s 0 ≡ 1) where
   abbrev slots : Slots
   slots = record { cores = byteAt s 3; slot = byteAt s 4; core = byteAt s 5 }
 

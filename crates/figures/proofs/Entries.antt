@@ -13,7 +13,7 @@ use Rattle.runs.specs.Figures.{Time, noTime, entryOf, held, longestOf, exitTime
 use Rattle.runs.proofs.Joins.{row-same, sum-same}
 use Rattle.schedule.specs.Said.{said}
 use Rattle.image.specs.Nodes.{taskOf}
-use Rattle.image.specs.declared.Task.{Task}
+use Rattle.image.specs.declared.Outline.{Outline}
 use Rattle.times.specs.Arrays.{timeOf, tableOf}
 use Rattle.times.proofs.Tables.{tableOf-at}
 use Rattle.figures.specs.Answers.{filled}
@@ -42,7 +42,7 @@ take-row zero t h = refl
 take-row (suc n) [] h = absurd (not-suc-le-zero h)
 take-row (suc n) (x ∷ xs) h = ap (λ (l : List ℕ). x ∷ l) (take-row n xs (le-of-suc-le-suc h))
 
-module _ (s : List ℕ) (k : Task) (t : List ℕ) (ended : Ended s k t) where
+module _ (s : List ℕ) (k : Outline) (t : List ℕ) (ended : Ended s k t) where
   time-at : (o : ℕ) → o < said s .period → timeOf (getD t o 0) ≡ getD (exitTimes (taskOf s k)) o none
   time-at o l = sym (tableOf-at (said s .period) t o l) ∙ ap (λ (T : List Time). getD T o none) ended
 

@@ -7,14 +7,14 @@ use lib.Dec.{ltb}
 use native.Mathlib.Nat.{mul-le-mul-left}
 use native.Mathlib.Omega.{arith}
 use Prim.Native.Nat.{ℕ, _≤_}
-use Rattle.runs.specs.Runs.{Task as RunTask}
+use Rattle.runs.specs.Runs.{Task}
 use Rattle.runs.specs.Figures.{entryOf, tight, published, exitCount}
-use Rattle.runs.proofs.Whole.{demand3}
+use Rattle.runs.proofs.Whole.{whole-exact}
 use Rattle.image.specs.Nodes.{taskOf}
 use Rattle.image.specs.Judged.{judged}
 use Rattle.image.specs.Promise.{Judging}
 use Rattle.image.specs.declared.Refusal.{Refusal}
-use Rattle.image.specs.declared.Task.{Task}
+use Rattle.image.specs.declared.Outline.{Outline}
 use Rattle.image.specs.declared.Verdict.{Verdict}
 use Rattle.image.specs.declared.Verdict.the-variants.{Accepted, Refused}
 use Rattle.image.proofs.Reasons.{when-accepted}
@@ -31,7 +31,7 @@ use Rattle.figures.specs.Steps.{Answerable, Answered}
 use Rattle.figures.proofs.Whole.{whole-runs}
 
 -- what judging has shown is what the figures ask
-pub answerable : (s places : List ℕ) (v : Verdict) (k : Task) → Judging s v places → v ≡ Accepted k → Answerable s k places
+pub answerable : (s places : List ℕ) (v : Verdict) (k : Outline) → Judging s v places → v ≡ Accepted k → Answerable s k places
 answerable s places v k j e =
     record { sound = j .sound k e; accepted = accepted s k (sym (j .is) ∙ e) }
 
@@ -50,19 +50,19 @@ module _ (s before : List ℕ) (r : Refusal) (place : ℕ) (e : judged s ≡ Ref
 -- ---- an accepted image
 
 -- numbers that are given are those of a table that is long enough
-record Whole (t : RunTask) (P : ℕ) (before : List ℕ) (tightest most exits : ℕ) (after : List ℕ) : Type 0 where
+record Whole (t : Task) (P : ℕ) (before : List ℕ) (tightest most exits : ℕ) (after : List ℕ) : Type 0 where
   first : tightest ≡ entryOf (tight t)
   second : most ≡ published t
   third : exits ≡ exitCount t
   table : after ≡ filled t P before
 
-whole : (z : Bool) (t : RunTask) (P n place : ℕ) (before : List ℕ) (tightest most exits : ℕ) (after : List ℕ)
+whole : (z : Bool) (t : Task) (P n place : ℕ) (before : List ℕ) (tightest most exits : ℕ) (after : List ℕ)
     → given tightest most exits ≡ cond z (refused n place) (figuresOf t) → after ≡ cond z before (filled t P before)
     → Whole t P before tightest most exits after
 whole true t P n place before tightest most exits after e h = absurd (let z : _≡_ {A = ℕ} 0 1 = cc in omega arith)
 whole false t P n place before tightest most exits after e h = record { first = cc; second = cc; third = cc; table = h }
 
-module _ (s before : List ℕ) (k : Task) (e : judged s ≡ Accepted k) where
+module _ (s before : List ℕ) (k : Outline) (e : judged s ≡ Accepted k) where
   ranged : Ranged s
   ranged = ranged-kept s k (when-accepted s k e)
 
@@ -86,7 +86,7 @@ module _ (s before : List ℕ) (k : Task) (e : judged s ≡ Accepted k) where
   figures-most tightest most exits after g h =
       let ok = accepted s k e in
       let short = mul-le-mul-left 65535 (when-accepted s k e .short) in
-      let cost = demand3 (taskOf s k) ok .cost-bounded in
+      let cost = whole-exact (taskOf s k) ok .cost-bounded in
       let is = totals tightest most exits after g h .second in
       let below = runs tightest most exits after g h .below-published in
       (omega arith, omega arith)
@@ -98,7 +98,7 @@ module _ (s before : List ℕ) (k : Task) (e : judged s ≡ Accepted k) where
     pub given-demand3 : Demand3 s r after
     given-demand3 k' f e' g =
         let same : k ≡ k' = cc in
-        subst (λ (x : Task). WholeRuns (taskOf s x) (f .tight) (f .published) (f .exits) after) same
+        subst (λ (x : Outline). WholeRuns (taskOf s x) (f .tight) (f .published) (f .exits) after) same
         (runs (f .tight) (f .published) (f .exits) after (rw g at (a .result)) (a .table))
 
     algorithms : (f : Totals) → r ≡ Given f → ByAlgorithms s k f
@@ -110,4 +110,4 @@ module _ (s before : List ℕ) (k : Task) (e : judged s ≡ Accepted k) where
     }
 
     pub given-demand2 : Demand2 s r
-    given-demand2 k' f e' g = let same : k ≡ k' = cc in subst (λ (x : Task). ByAlgorithms s x f) same (algorithms f g)
+    given-demand2 k' f e' g = let same : k ≡ k' = cc in subst (λ (x : Outline). ByAlgorithms s x f) same (algorithms f g)

@@ -13,7 +13,7 @@ use Rattle.runs.specs.Schedules.{owning}
 use Rattle.runs.specs.Lines.{power}
 use Rattle.runs.specs.Clock.{withLines}
 use Rattle.runs.specs.Nodes.{Tree, visits}
-use Rattle.runs.specs.Runs.{listed}
+use Rattle.runs.specs.Runs.{isStart}
 use Rattle.runs.specs.Carried.{row, joinBelow}
 use Rattle.runs.specs.Figures.{Time, noTime, longer, startTimes, times, cost, atOffsets, published}
 use Rattle.runs.proofs.Cases.{split}
@@ -47,27 +47,27 @@ no-line zero h = refl
 no-line (suc n) h = let z : 1 ≤ 0 = omega (arith, power-pos n) in absurd (not-suc-le-zero z)
 
 module _ (s : List ℕ) (w : Walk) (places : List ℕ) (ok : Walkable s w places) where
-  few : visits (treeAt s (w .task .entry)) ≤ 100000
+  few : visits (treeAt s (w .outline .entry)) ≤ 100000
   few = ok .sound .short
 
   abbrev P : ℕ
   P = w .bus .period
 
   -- the walk's table from its places
-  start-table : (t : List ℕ) → ((p : ℕ) → p < sizeOf w → getD t p 0 ≡ cond (ltb p P && listed (startsOf s) p) 0 noTime) → StartedAt s w t
+  start-table : (t : List ℕ) → ((p : ℕ) → p < sizeOf w → getD t p 0 ≡ cond (ltb p P && isStart (startsOf s) p) 0 noTime) → StartedAt s w t
   unfolding tableOf startTimes withLines owning
-  start-table t h = row-same (sizeOf w) _ _ (λ p l. ap timeOf (h p l) ∙ entry (ltb p P && listed (startsOf s) p))
+  start-table t h = row-same (sizeOf w) _ _ (λ p l. ap timeOf (h p l) ∙ entry (ltb p P && isStart (startsOf s) p))
 
-  low-start : (t : List ℕ) (p : ℕ) → p < P → getD t p 0 ≡ cond (listed (startsOf s) p) 0 noTime → getD t p 0 ≡ cond (ltb p P && listed (startsOf s) p) 0 noTime
+  low-start : (t : List ℕ) (p : ℕ) → p < P → getD t p 0 ≡ cond (isStart (startsOf s) p) 0 noTime → getD t p 0 ≡ cond (ltb p P && isStart (startsOf s) p) 0 noTime
   low-start t p l e = rw (lt-ltb p P l) e
 
-  single : w .task .sets ≤ 1 → w .task .lines ≡ 0
-  single h = no-line (w .task .lines) (omega (arith, ok .sound .sets-is))
+  single : w .outline .sets ≤ 1 → w .outline .lines ≡ 0
+  single h = no-line (w .outline .lines) (omega (arith, ok .sound .sets-is))
 
   -- one row: the array of the starts is the table; and else its places are the first row
-  pub started-row : (t : List ℕ) → w .task .sets ≤ 1 → Started s (w .bus .period) t → StartedAt s w t
+  pub started-row : (t : List ℕ) → w .outline .sets ≤ 1 → Started s (w .bus .period) t → StartedAt s w t
   started-row t h e =
-      let m : power (w .task .lines) ≤ 1 = omega (arith, ok .sound .sets-is) in
+      let m : power (w .outline .lines) ≤ 1 = omega (arith, ok .sound .sets-is) in
       start-table t (λ p l. let b : p < P = omega (arith, mul-le-mul-right P m) in low-start t p b (e p b))
 
   pub started-rows : (start t : List ℕ) → Started s (w .bus .period) start → Put (replicate 1024 noTime) 0 (w .bus .period) start t → StartedAt s w t
@@ -82,17 +82,17 @@ module _ (s : List ℕ) (w : Walk) (places : List ℕ) (ok : Walkable s w places
   zero-at : (t : List ℕ) → StartedAt s w t → (o c : ℕ) → o < sizeOf w → getD (table w t) o none ≡ some c → c ≡ 0
   unfolding startTimes withLines owning
   zero-at t e o c l h =
-      go (ltb o P && listed (startsOf s) o)
-      (sym (row-at (sizeOf w) (λ p. cond (ltb p P && listed (startsOf s) p) (some 0) none) o none l) ∙ sym (ap (λ (T : List Time). getD T o none) e) ∙ h)
+      go (ltb o P && isStart (startsOf s) o)
+      (sym (row-at (sizeOf w) (λ p. cond (ltb p P && isStart (startsOf s) p) (some 0) none) o none l) ∙ sym (ap (λ (T : List Time). getD T o none) e) ∙ h)
     where
       go : (z : Bool) → cond z (some 0) none ≡ some c → c ≡ 0
       go true p = cc
       go false p = let z : _≡_ {A = ℕ} 0 1 = cc in omega arith
 
-  pub start-ready : (t : List ℕ) → sizeOf w ≤ length t → StartedAt s w t → Ready s w places (w .task .entry) t
+  pub start-ready : (t : List ℕ) → sizeOf w ≤ length t → StartedAt s w t → Ready s w places (w .outline .entry) t
   start-ready t size e = record {
     walkable = ok;
-    low = le-refl (w .task .entry);
+    low = le-refl (w .outline .entry);
     size = size;
     room = record {
       most = omega (arith, mul-le-mul-left 65535 few);
@@ -100,40 +100,40 @@ module _ (s : List ℕ) (w : Walk) (places : List ℕ) (ok : Walkable s w places
     };
   }
 
-  pub some-set : 1 ≤ w .task .sets
-  some-set = rw (ok .sound .sets-is) (power-pos (w .task .lines))
+  pub some-set : 1 ≤ w .outline .sets
+  some-set = rw (ok .sound .sets-is) (power-pos (w .outline .lines))
 
   -- the rows that the walk starts from, and those that it leaves
   module _ (start t : List ℕ) (e : Started s (w .bus .period) start) (u : Put (replicate 1024 noTime) 0 (w .bus .period) start t) where
     rows-long : sizeOf w ≤ length t
     rows-long = omega (arith, u .size, length-replicate 1024 noTime, wide-size s w places ok)
 
-    pub rows-ready : Ready s w places (w .task .entry) t
+    pub rows-ready : Ready s w places (w .outline .entry) t
     rows-ready = start-ready t rows-long (started-rows start t e u)
 
     -- as many of its rows as there are, or fewer
-    pub rows-joins : (x : Tree) (r : List ℕ) → Walked w x t r → (m : ℕ) → m ≤ w .task .sets → JoinReady (w .bus) m r
+    pub rows-joins : (x : Tree) (r : List ℕ) → Walked w x t r → (m : ℕ) → m ≤ w .outline .sets → JoinReady (w .bus) m r
     rows-joins x r h m l = record {
       fit = ok .fit;
       few = omega (arith, sized s w places ok .few);
       long =
-          let all : w .task .sets * w .bus .period ≤ length r = rw (ok .sound .sets-is) (omega (arith, h .size, rows-long)) in
+          let all : w .outline .sets * w .bus .period ≤ length r = rw (ok .sound .sets-is) (omega (arith, h .size, rows-long)) in
           omega (arith, mul-le-mul-right (w .bus .period) l);
     }
 
-  pub set-ready : (x : Set) → StartedSet s (w .bus .period) x → SetReady s w places (w .task .entry) x
-  set-ready x e = record { walkable = ok; low = le-refl (w .task .entry); few = few; within = e .within }
+  pub set-ready : (x : Set) → StartedSet s (w .bus .period) x → SetReady s w places (w .outline .entry) x
+  set-ready x e = record { walkable = ok; low = le-refl (w .outline .entry); few = few; within = e .within }
 
   -- the rows joined are the exit times
-  pub times-ended : (t r q : List ℕ) → StartedAt s w t → Walked w (treeAt s (w .task .entry)) t r → AtOffsets (w .bus) (w .task .lines) r q → Ended s (w .task) q
+  pub times-ended : (t r q : List ℕ) → StartedAt s w t → Walked w (treeAt s (w .outline .entry)) t r → AtOffsets (w .bus) (w .outline .lines) r q → Ended s (w .outline) q
   times-ended t r q e h j =
       ap (λ (n : ℕ). tableOf n q) (sym (period-said s w places ok))
-      ∙ j ∙ ap (atOffsets (withLines P (w .task .lines)) P)
-      (h .steps ∙ ap (λ (T : List Time). times (busMeant (w .bus)) (withLines P (w .task .lines)) (treeAt s (w .task .entry)) T) e)
+      ∙ j ∙ ap (atOffsets (withLines P (w .outline .lines)) P)
+      (h .steps ∙ ap (λ (T : List Time). times (busMeant (w .bus)) (withLines P (w .outline .lines)) (treeAt s (w .outline .entry)) T) e)
       ∙ times-said s w places ok
 
   -- and one row is
-  pub row-joined : (r : List ℕ) → w .task .sets ≤ 1 → AtOffsets (w .bus) (w .task .lines) r r
+  pub row-joined : (r : List ℕ) → w .outline .sets ≤ 1 → AtOffsets (w .bus) (w .outline .lines) r r
   unfolding power joinBelow
   row-joined r h =
       rw (single h)
@@ -141,6 +141,6 @@ module _ (s : List ℕ) (w : Walk) (places : List ℕ) (ok : Walkable s w places
       (λ o l. let z : 0 * P + o ≡ o = omega arith in
       sym (ap (λ (v : Time). longer v (timeOf (getD r (0 * P + o) 0))) (over-none (w .bus) r o) ∙ longer-joins .left _ ∙ ap (λ (i : ℕ). timeOf (getD r i 0)) z)))
 
-  pub cost-ended : (x : Set) (r : Outcome) → StartedSet s (w .bus .period) x → Published (w .bus) (treeAt s (w .task .entry)) x r
-      → r .cost ≡ published (taskOf s (w .task))
-  cost-ended x r e h = h .costs ∙ ap (cost (busMeant (w .bus)) (treeAt s (w .task .entry))) (e .bits) ∙ cost-said s w places ok
+  pub cost-ended : (x : Set) (r : Outcome) → StartedSet s (w .bus .period) x → Published (w .bus) (treeAt s (w .outline .entry)) x r
+      → r .cost ≡ published (taskOf s (w .outline))
+  cost-ended x r e h = h .costs ∙ ap (cost (busMeant (w .bus)) (treeAt s (w .outline .entry))) (e .bits) ∙ cost-said s w places ok

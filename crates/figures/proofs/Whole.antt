@@ -13,10 +13,10 @@ use Rattle.runs.specs.Nodes.{visits}
 use Rattle.runs.specs.Runs.{Task, placesOf, Run, finalOffset, Ends}
 use Rattle.runs.specs.Carried.{row}
 use Rattle.runs.specs.Figures.{Time, noTime, entryOf, held, sum, treeOf, exitTimes, exitCount, tight, published}
-use Rattle.runs.specs.Demand3.{Longest, nothing, reached, Accepted, Exact}
+use Rattle.runs.specs.Exact.{Longest, nothing, reached, ValidTask, Exact}
 use Rattle.runs.proofs.Meanings.{row-at}
 use Rattle.runs.proofs.TimesExact.{longest-some}
-use Rattle.runs.proofs.Whole.{demand3, tight-number, run-inside}
+use Rattle.runs.proofs.Whole.{whole-exact, tight-number, run-inside}
 use Rattle.figures.specs.WholeRuns.{Listed, Counted, none as no-numbers, one-more, no-more, EndsAt, WholeRuns}
 
 pub row-length : {A : Type 0} (n : ℕ) (f : ℕ → A) → length (row n f) ≡ n
@@ -29,7 +29,7 @@ longest-has : {C : ℕ → Type 0} {v : Time} → Longest C v → (c : ℕ) → 
 longest-has (nothing h) c x = absurd (h c x)
 longest-has (reached {t = t} y h) c x = (t, refl, h c x)
 
-module _ (t : Task) (ok : Accepted t) (few : visits (treeOf t) ≤ 100000) (rest : List ℕ) where
+module _ (t : Task) (ok : ValidTask t) (few : visits (treeOf t) ≤ 100000) (rest : List ℕ) where
   abbrev P : ℕ
   P = t .bus .period
 
@@ -38,7 +38,7 @@ module _ (t : Task) (ok : Accepted t) (few : visits (treeOf t) ≤ 100000) (rest
   table = row (t .bus .period) (λ o. entryOf (getD (exitTimes t) o none)) ++ rest
 
   exact : Exact t
-  exact = demand3 t ok
+  exact = whole-exact t ok
 
   place : (o : ℕ) → o < t .bus .period → getD table o 0 ≡ entryOf (getD (exitTimes t) o none)
   place o l =

@@ -6,7 +6,7 @@ use mathlib.Core.List.{List, _++_}
 use lib.ListN.{length, getD, drop}
 use lib.Dec.{ltb}
 use Prim.Native.Nat.{ℕ}
-use Rattle.runs.specs.Runs.{Task as RunTask}
+use Rattle.runs.specs.Runs.{Task}
 use Rattle.runs.specs.Carried.{row}
 use Rattle.runs.specs.Figures.{entryOf, exitTimes, exitCount, tight, published}
 use Rattle.image.specs.Nodes.{taskOf}
@@ -27,12 +27,12 @@ resultOf (Given f) = given (f .tight) (f .published) (f .exits)
 resultOf (NotGiven r place) = refused (numberOf r) place
 
 -- of a task with figures
-abbrev pub figuresOf : RunTask → Result
+abbrev pub figuresOf : Task → Result
 figuresOf t = given (entryOf (tight t)) (published t) (exitCount t)
 
 -- "one for each offset below P. On success, place o holds the longest time of a run ending at o, or 18,446,744,073,709,551,615 if
 -- none does; later places keep their contents."
-abbrev pub filled : RunTask → ℕ → List ℕ → List ℕ
+abbrev pub filled : Task → ℕ → List ℕ → List ℕ
 filled t P table = row P (λ o. entryOf (getD (exitTimes t) o none)) ++ drop P table
 
 -- 10: "fewer than P places lent", "judged last", its place "the image's length"

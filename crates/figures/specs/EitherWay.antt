@@ -9,7 +9,7 @@ use Rattle.runs.specs.Schedules.{even}
 use Rattle.schedule.specs.Written.{slotsField, turnsField, otherWay}
 use Rattle.image.specs.Judged.{judged}
 use Rattle.image.specs.Moved.{moved}
-use Rattle.image.specs.declared.Task.{Task}
+use Rattle.image.specs.declared.Outline.{Outline}
 use Rattle.image.specs.declared.Verdict.the-variants.{Accepted}
 use Rattle.figures.specs.Answers.{Result, given, refused, answer, tableAfter}
 
@@ -27,7 +27,7 @@ pub record EitherWay (v : Slots) (rest table : List ℕ) : Type 0 where
 
 -- of an accepted image with tag 1, and the same image written with tag 9: the same task, the same figures where places enough are lent (else both have
 -- 10), the same table
-pub record EqualAnswers (s : List ℕ) (k : Task) (table : List ℕ) : Type 0 where
+pub record EqualAnswers (s : List ℕ) (k : Outline) (table : List ℕ) : Type 0 where
   pub verdict : judged (otherWay s) ≡ Accepted k
   pub answers : k .period ≤ length table → answer (otherWay s) table ≡ answer s table
   pub tables : tableAfter (otherWay s) table ≡ tableAfter s table

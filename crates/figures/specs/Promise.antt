@@ -11,7 +11,7 @@ use Rattle.bytes.specs.Bytes.{byteAt}
 use Rattle.schedule.specs.Said.{scheduleAt}
 use Rattle.image.specs.Nodes.{taskOf}
 use Rattle.image.specs.Judged.{judged}
-use Rattle.image.specs.declared.Task.{Task}
+use Rattle.image.specs.declared.Outline.{Outline}
 use Rattle.image.specs.declared.Verdict.the-variants.{Accepted}
 use Rattle.figures.specs.declared.Totals.{Totals}
 use Rattle.figures.specs.declared.Answer.{Answer}
@@ -26,12 +26,12 @@ pub record Equal (s before : List ℕ) (r : Answer) (after : List ℕ) : Type 0 
 
 -- 2, demand 3: for an accepted image, whose task its bytes say
 abbrev pub Demand3 : List ℕ → Answer → List ℕ → Type 0
-Demand3 s r after = (k : Task) (f : Totals) → judged s ≡ Accepted k → r ≡ Given f
+Demand3 s r after = (k : Outline) (f : Totals) → judged s ≡ Accepted k → r ≡ Given f
     → WholeRuns (taskOf s k) (f .tight) (f .published) (f .exits) after
 
 -- 3, demand 2: Algorithms 1 to 3, each access waiting by Equation 7 on the image's own cores, slot and core number; where a schedule stands in their
 -- place (W5, tag 9), "the least number of cycles after which that core owns e consecutive cycles, counted round the period"
-pub record ByAlgorithms (s : List ℕ) (k : Task) (f : Totals) : Type 0 where
+pub record ByAlgorithms (s : List ℕ) (k : Outline) (f : Totals) : Type 0 where
   pub figure : f .published ≡ published (taskOf s k)
   pub wait : byteAt s 0 ≡ 1 → (e o : ℕ) → taskOf s k .bus .wait e o ≡ equation7 (record { cores = byteAt s 3; slot = byteAt s 4; core = byteAt s 5 }) e o
   pub unequal-wait : byteAt s 0 ≡ 9 → (e o : ℕ) → 1 ≤ e → e ≤ taskOf s k .bus .most → o < total (scheduleAt s .turns)
@@ -40,4 +40,4 @@ pub record ByAlgorithms (s : List ℕ) (k : Task) (f : Totals) : Type 0 where
   pub first-tag : (byteAt s 0 ≡ 1) ⊎ (byteAt s 0 ≡ 9)
 
 abbrev pub Demand2 : List ℕ → Answer → Type 0
-Demand2 s r = (k : Task) (f : Totals) → judged s ≡ Accepted k → r ≡ Given f → ByAlgorithms s k f
+Demand2 s r = (k : Outline) (f : Totals) → judged s ≡ Accepted k → r ≡ Given f → ByAlgorithms s k f

@@ -6,10 +6,10 @@ use lib.ListN.{getD}
 use lib.Dec.{eqb}
 use Prim.Native.Nat.{ℕ, _+_, _≤_, _<_}
 use Rattle.runs.specs.Clock.{withLines}
-use Rattle.runs.specs.Runs.{listed}
+use Rattle.runs.specs.Runs.{isStart}
 use Rattle.runs.specs.Carried.{row}
 use Rattle.runs.specs.Figures.{noTime, startTimes, exitTimes, sum}
-use Rattle.runs.specs.Demand3.{Accepted as AcceptedTask}
+use Rattle.runs.specs.Exact.{ValidTask}
 use Rattle.bus.specs.Owning.{busMeant}
 use Rattle.offsets.specs.declared.Set.{Set}
 use Rattle.offsets.specs.Sets.{value, has}
@@ -18,7 +18,7 @@ use Rattle.image.specs.Conditions.{lengthAt, bodyAt}
 use Rattle.image.specs.Nodes.{startsOf, taskOf}
 use Rattle.schedule.specs.Said.{said}
 use Rattle.image.specs.Promise.{Sound}
-use Rattle.image.specs.declared.Task.{Task}
+use Rattle.image.specs.declared.Outline.{Outline}
 use Rattle.image.specs.declared.Walk.{Walk}
 use Rattle.times.specs.Arrays.{tableOf}
 use Rattle.image.specs.declared.Verdict.the-variants.{Accepted}
@@ -37,24 +37,24 @@ pub record Listing (s : List ℕ) (place P n : ℕ) : Type 0 where
   pub near : place ≤ 65541
 
 -- what judging has shown of an accepted image
-pub record Answerable (s : List ℕ) (k : Task) (places : List ℕ) : Type 0 where
+pub record Answerable (s : List ℕ) (k : Outline) (places : List ℕ) : Type 0 where
   pub sound : Sound s k places
-  pub accepted : AcceptedTask (taskOf s k)
+  pub accepted : ValidTask (taskOf s k)
 
 -- the array that holds the time 0 at each listed start; and the table that the walk starts from
 abbrev pub Started : List ℕ → ℕ → List ℕ → Type 0
-Started s P r = (o : ℕ) → o < P → getD r o 0 ≡ cond (listed (startsOf s) o) 0 noTime
+Started s P r = (o : ℕ) → o < P → getD r o 0 ≡ cond (isStart (startsOf s) o) 0 noTime
 
 abbrev pub StartedAt : List ℕ → Walk → List ℕ → Type 0
-StartedAt s w t = table w t ≡ startTimes (busMeant (w .bus)) (withLines (w .bus .period) (w .task .lines)) (startsOf s)
+StartedAt s w t = table w t ≡ startTimes (busMeant (w .bus)) (withLines (w .bus .period) (w .outline .lines)) (startsOf s)
 
 -- the set of the listed starts
 pub record StartedSet (s : List ℕ) (P : ℕ) (r : Set) : Type 0 where
-  pub bits : bitsOf P r ≡ row P (λ o. listed (startsOf s) o)
+  pub bits : bitsOf P r ≡ row P (λ o. isStart (startsOf s) o)
   pub within : Within P r
 
 -- the array that holds the exit times
-abbrev pub Ended : List ℕ → Task → List ℕ → Type 0
+abbrev pub Ended : List ℕ → Outline → List ℕ → Type 0
 Ended s k r = tableOf (said s .period) r ≡ exitTimes (taskOf s k)
 
 -- how many places below n of an array hold a time
@@ -67,6 +67,6 @@ pub record Holding (t : List ℕ) (n : ℕ) (r : Set) : Type 0 where
   pub members : (o : ℕ) → o < n → has (value r) o ≡ not (eqb (getD t o 0) noTime)
 
 -- the answer for an accepted image
-pub record Answered (s : List ℕ) (k : Task) (before : List ℕ) (r : Answer) (after : List ℕ) : Type 0 where
+pub record Answered (s : List ℕ) (k : Outline) (before : List ℕ) (r : Answer) (after : List ℕ) : Type 0 where
   pub result : resultOf r ≡ afterJudging s before (Accepted k)
   pub table : after ≡ tableFor s before (Accepted k)

@@ -16,8 +16,8 @@ ghost use Rattle.image.specs.Conditions.{bodyAt};
 ghost use Rattle.image.specs.Walks.{Walkable};
 ghost use Rattle.figures.specs.Promise.{Equal, Demand3, Demand2};
 ghost use Rattle.figures.specs.Steps.{Listing, Answerable, Answered, Started, StartedSet, Ended, Holding, holding};
+use image::Outline;
 use image::Refusal;
-use image::Task;
 use image::Verdict;
 use image::Walk;
 use offsets::Set;
@@ -75,36 +75,36 @@ fn start_set(image: &[u8], place: usize, period: usize, n: usize) -> Set
 // The longest time at each exit offset.
 fn exit_times(image: &[u8], places: &[usize; 256], w: Walk) -> [u64; 256]
     requires { ⌜ Walkable (now image) w (now places) ⌝ }
-    ensures { λ r. ⌜ Ended (now (image .entry)) (w .task) r ⌝ }
+    ensures { λ r. ⌜ Ended (now (image .entry)) (w .outline) r ⌝ }
 {
     let place = starts_at(image);
-    let mut t = start_times(image, place, w.bus.period, w.task.starts);
-    if 1 < w.task.sets {
+    let mut t = start_times(image, place, w.bus.period, w.outline.starts);
+    if 1 < w.outline.sets {
         return over_lines(image, places, w, &t);
     }
-    tight::walk(image, places, w, w.task.entry, &mut t);
+    tight::walk(image, places, w, w.outline.entry, &mut t);
     t
 }
 
 // The same where the image has lines: the starts have no line fetched, and at the end each offset has its longest time, whichever lines are.
 fn over_lines(image: &[u8], places: &[usize; 256], w: Walk, start: &[u64; 256]) -> [u64; 256]
     requires { ⌜ (Walkable (now image) w (now places)) × Started (now image) (w .bus .period) (now start) ⌝ }
-    ensures { λ r. ⌜ Ended (now (image .entry)) (w .task) r ⌝ }
+    ensures { λ r. ⌜ Ended (now (image .entry)) (w .outline) r ⌝ }
 {
     let mut t = [18446744073709551615u64; 1024];
     times::put(&mut t, 0, start, w.bus.period);
-    tight::walk(image, places, w, w.task.entry, &mut t);
-    lined::at_offsets(w.bus, w.task.sets, &t)
+    tight::walk(image, places, w, w.outline.entry, &mut t);
+    lined::at_offsets(w.bus, w.outline.sets, &t)
 }
 
 // The published figure.
 fn published_cost(image: &[u8], places: &[usize; 256], w: Walk) -> u64
     requires { ⌜ Walkable (now image) w (now places) ⌝ }
-    ensures { λ r. ⌜ r ≡ published (taskOf (now (image .entry)) (w .task)) ⌝ }
+    ensures { λ r. ⌜ r ≡ published (taskOf (now (image .entry)) (w .outline)) ⌝ }
 {
     let place = starts_at(image);
-    let start = start_set(image, place, w.bus.period, w.task.starts);
-    let all = published::walk(image, places, w, w.task.entry, start);
+    let start = start_set(image, place, w.bus.period, w.outline.starts);
+    let all = published::walk(image, places, w, w.outline.entry, start);
     all.cost
 }
 
@@ -145,7 +145,7 @@ pub fn fill(table: &mut [u64], t: &[u64], n: usize)
 }
 
 // The answer for an accepted image: 10, or the figures, worked out on the bus that the image says.
-fn given(image: &[u8], places: &[usize; 256], k: Task, table: &mut [u64]) -> Answer
+fn given(image: &[u8], places: &[usize; 256], k: Outline, table: &mut [u64]) -> Answer
     requires { ⌜ Answerable (now image) k (now places) ⌝ }
     ensures { λ r. ⌜ Answered (now (image .entry)) k (now (table .entry)) r (now (table .exit)) ⌝ }
 {
@@ -155,7 +155,7 @@ fn given(image: &[u8], places: &[usize; 256], k: Task, table: &mut [u64]) -> Ans
     }
     let w = Walk {
         bus: schedule::bus_at(image),
-        task: k,
+        outline: k,
     };
     let times = exit_times(image, places, w);
     fill(table, &times, period);

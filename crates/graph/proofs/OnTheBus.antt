@@ -6,9 +6,9 @@ use native.Mathlib.Nat.{mod-lt, mod-mod, add-zero}
 use native.Mathlib.Omega.{arith}
 use Prim.Native.Nat.{ℕ, zero, suc, _+_, _-_, _%_, _≤_, _<_}
 use Rattle.runs.specs.Clock.{on, withLines}
-use Rattle.runs.specs.Runs.{Task, placesOf, finalOffset, listed, Run}
+use Rattle.runs.specs.Runs.{Task, placesOf, finalOffset, isStart, Run}
 use Rattle.runs.specs.Figures.{treeOf}
-use Rattle.runs.specs.Demand3.{Accepted as RunAccepted}
+use Rattle.runs.specs.Exact.{ValidTask}
 use Rattle.runs.proofs.Cases.{split}
 use Rattle.runs.proofs.LinesLaws.{lines-turn}
 use Rattle.runs.proofs.ByNumber.{exec-does}
@@ -20,7 +20,7 @@ use Rattle.image.specs.Nodes.{taskOf, startsOf}
 use Rattle.image.specs.Conditions.{lengthAt, bodyAt}
 use Rattle.image.specs.Judged.{judged}
 use Rattle.image.specs.Promise.{Starts}
-use Rattle.image.specs.declared.Task.{Task as Kept}
+use Rattle.image.specs.declared.Outline.{Outline}
 use Rattle.image.specs.declared.Verdict.the-variants.{Accepted}
 use Rattle.image.proofs.Lists.{is-listed}
 use Rattle.image.proofs.Reasons.{when-accepted}
@@ -52,7 +52,7 @@ ends-right t pos c d r =
     ∙ ap (λ (n : ℕ). (c + n) % t .bus .period) (r .cycles)
 
 -- from any cycle there is a run
-some-takes : (t : Task) → RunAccepted t → (c : ℕ) → (d : ℕ) × Takes t c d
+some-takes : (t : Task) → ValidTask t → (c : ℕ) → (d : ℕ) × Takes t c d
 some-takes t ok c =
     let pos = ok .lawful .period-pos in
     let turn = lines-turn (t .bus .period) pos (t .lines) in
@@ -68,14 +68,14 @@ some-takes t ok c =
 -- ---- an image
 
 -- an accepted image that lists every offset, begun at any cycle, takes at most its tight figure
-pub takes-most : (s : List ℕ) (k : Kept) (time : ℕ) (q : Quoted s k time) → (c d : ℕ) → Takes (taskOf s k) c d → d ≤ q .tight
+pub takes-most : (s : List ℕ) (k : Outline) (time : ℕ) (q : Quoted s k time) → (c d : ℕ) → Takes (taskOf s k) c d → d ≤ q .tight
 takes-most s k time q c d r =
     any-cycle (taskOf s k) (q .tight) (q .published) (q .exits) _
     (runs s (q .lent) k (q .accepted) (q .tight) (q .published) (q .exits) _ (sym (rw (q .accepted) at (q .figure))) refl)
     (q .every) c d r
 
 -- every figure of an accepted image may be a time
-pub time-permitted : (s lent : List ℕ) (k : Kept) (tight published exits : ℕ) → judged s ≡ Accepted k → answer s lent ≡ given tight published exits
+pub time-permitted : (s lent : List ℕ) (k : Outline) (tight published exits : ℕ) → judged s ≡ Accepted k → answer s lent ≡ given tight published exits
     → (tight ≤ 6553500000) × (published ≤ 6553500000)
 time-permitted s lent k tight published exits e h = figures-most s lent k e tight published exits _ (sym (rw e at h)) refl
 
@@ -93,17 +93,17 @@ module _ (s : List ℕ) (P : ℕ) (h : Starts s P P) where
   start-is i l = omega (arith, no-lower i l, no-higher (P - i - 1) i (omega arith))
 
 -- how it is seen in the bytes: an accepted image with as many starts as its period has offsets lists every offset
-pub lists-every : (s : List ℕ) (k : Kept) → judged s ≡ Accepted k → lengthAt s 1 ≡ k .period → EveryOffset (taskOf s k)
+pub lists-every : (s : List ℕ) (k : Outline) → judged s ≡ Accepted k → lengthAt s 1 ≡ k .period → EveryOffset (taskOf s k)
 lists-every s k e full o l =
     let a = when-accepted s k e in
     let many : k .starts ≡ k .period = a .starts ∙ full in
     let h : Starts s (k .period) (k .period) = rw (many, ← (a .period)) at (starts-kept s k a) in
     let this : byteAt s (bodyAt s 1 + o) ≡ o = start-is s (k .period) h o (omega (arith, a .period, l)) in
-    subst (λ (x : ℕ). listed (startsOf s) x ≡ true) this (is-listed s (bodyAt s 1) (lengthAt s 1) o (omega (arith, full, a .period, l)))
+    subst (λ (x : ℕ). isStart (startsOf s) x ≡ true) this (is-listed s (bodyAt s 1) (lengthAt s 1) o (omega (arith, full, a .period, l)))
 
 -- ---- a graph of images
 
-module _ (g : Graph) (n : ℕ) (image : ℕ → List ℕ) (kept : ℕ → Kept) (quoted : Imaged g n image kept) (origin : ℕ) where
+module _ (g : Graph) (n : ℕ) (image : ℕ → List ℕ) (kept : ℕ → Outline) (quoted : Imaged g n image kept) (origin : ℕ) where
   pub in-time : (start end : ℕ → ℕ) → Ran g n image kept origin start end → InTime g n start end
   in-time start end r = record {
     starts = r .starts;

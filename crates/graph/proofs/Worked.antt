@@ -5,7 +5,7 @@ use mathlib.Core.List.{List, [], _∷_, _++_}
 use lib.ListN.{replicate}
 use native.Mathlib.Omega.{arith}
 use Prim.Native.Nat.{ℕ}
-use Rattle.runs.specs.Slots.{equal, equation7}
+use Rattle.runs.specs.Slots.{equalSlots, equation7}
 use Rattle.runs.specs.Lines.{power}
 use Rattle.runs.specs.Clock.{withLines}
 use Rattle.runs.specs.Nodes.{trees, treeBy, treeTo, tree, depth, visits, linesTo}
@@ -16,7 +16,7 @@ use Rattle.schedule.specs.Said.{busOk, said}
 use Rattle.image.specs.Fields.{tagOk, lengthOk, startsOk, plainOk, accessOk, blockOk, loopOk, valueOk, below, childrenOk, fieldOf}
 use Rattle.image.specs.Nodes.{fieldAt, nodeFrom, meant, nodeAt}
 use Rattle.image.specs.Judged.{scanFrom, scan, wholeOf, judged}
-use Rattle.image.specs.declared.Task.{Task as Kept}
+use Rattle.image.specs.declared.Outline.{Outline}
 use Rattle.graph.specs.Graph.{finish}
 use Rattle.graph.specs.Table.{graphOf, refusedAt}
 use Rattle.graph.specs.Images.{Quoted}
@@ -66,11 +66,11 @@ worked = record {
 abbrev a2 : List ℕ
 a2 = 1 ∷ 0 ∷ 3 ∷ 2 ∷ 5 ∷ 0 ∷ 2 ∷ 0 ∷ 10 ∷ 0 ∷ 1 ∷ 2 ∷ 3 ∷ 4 ∷ 5 ∷ 6 ∷ 7 ∷ 8 ∷ 9 ∷ 4 ∷ 0 ∷ 3 ∷ 2 ∷ 2 ∷ 2 ∷ []
 
-abbrev kept : Kept
+abbrev kept : Outline
 kept = record { period = 10; starts = 10; lines = 0; sets = 1; nodes = 1; entry = 0 }
 
 quoted : Quoted a2 kept 8
-unfolding wordAt words bytes tagOk lengthOk busOk said startsOk plainOk accessOk blockOk loopOk valueOk below childrenOk fieldOf fieldAt nodeFrom meant nodeAt trees treeBy treeTo tree depth visits power linesTo scanFrom scan wholeOf judged equal equation7 withLines carried startTimes startSet longer later longestOf atOffsets cost entryOf held sum
+unfolding wordAt words bytes tagOk lengthOk busOk said startsOk plainOk accessOk blockOk loopOk valueOk below childrenOk fieldOf fieldAt nodeFrom meant nodeAt trees treeBy treeTo tree depth visits power linesTo scanFrom scan wholeOf judged equalSlots equation7 withLines carried startTimes startSet longer later longestOf atOffsets cost entryOf held sum
 quoted = record {
   accepted = refl;
   every = lists-every a2 kept refl refl;

@@ -3,7 +3,7 @@ use mathlib.Core.Path.{_≡_}
 use mathlib.Core.List.{List}
 use lib.ListN.{getD}
 use Prim.Native.Nat.{ℕ, _+_, _≤_, _<_}
-use Rattle.image.specs.declared.Task.{Task as Kept}
+use Rattle.image.specs.declared.Outline.{Outline}
 use Rattle.graph.specs.declared.Verdict.the-variants.{Accepted, Refused}
 use Rattle.graph.specs.declared.Answer.{Answer}
 use Rattle.graph.specs.Graph.{Graph, latest, InTime, OnTime}
@@ -37,9 +37,9 @@ pub record Finishing (s : List ℕ) (n : ℕ) (f : List ℕ) : Type 0 where
   pub some-schedule : (start end : ℕ → ℕ) × OnTime (graphOf s) n start end
   -- "For tight figures as times, each image must list every offset as a start": then no whole run on the bus clock ends after its finish,
   -- at whatever cycle the whole begins; and there are such runs
-  pub whole-runs : (image : ℕ → List ℕ) (kept : ℕ → Kept) → Imaged (graphOf s) n image kept → (origin : ℕ) (start end : ℕ → ℕ)
+  pub whole-runs : (image : ℕ → List ℕ) (kept : ℕ → Outline) → Imaged (graphOf s) n image kept → (origin : ℕ) (start end : ℕ → ℕ)
       → Ran (graphOf s) n image kept origin start end → (i : ℕ) → i < n → Meets (graphOf s) f start end i
-  pub some-runs : (image : ℕ → List ℕ) (kept : ℕ → Kept) → Imaged (graphOf s) n image kept → (origin : ℕ)
+  pub some-runs : (image : ℕ → List ℕ) (kept : ℕ → Outline) → Imaged (graphOf s) n image kept → (origin : ℕ)
       → (start end : ℕ → ℕ) × Ran (graphOf s) n image kept origin start end
 
 -- 3, of an accepted table: it is answered, and with such numbers

@@ -6,8 +6,8 @@ use Prim.Native.Nat.{ℕ, _+_, _-_, _*_, _%_}
 use lib.ListN.{length, length-append}
 use borrow.Author.Tests.{le-leb, eq-eqb}
 use Rattle.runs.specs.Bus.{SameBus}
-use Rattle.runs.specs.Slots.{equal}
-use Rattle.runs.specs.Schedules.{unequal}
+use Rattle.runs.specs.Slots.{equalSlots}
+use Rattle.runs.specs.Schedules.{unequalSlots}
 use Rattle.bus.specs.Waits.{slotsOf, Ranges}
 use Rattle.bus.specs.declared.Slots.{Slots}
 use Rattle.bytes.specs.Bytes.{wordAt}
@@ -70,11 +70,11 @@ module _ (v : Slots) (h : Ranges v) (rest : List ℕ) where
   unfolding fieldAt
   nine-ends = omega (arith, body, long)
 
-  said-one : said (one ++ rest) ≡ equal (slotsOf v)
+  said-one : said (one ++ rest) ≡ equalSlots (slotsOf v)
   said-one = said-slots (one ++ rest) refl
 
-  said-nine : said (nine ++ rest) ≡ unequal (evenly v h)
-  said-nine = said-turns (nine ++ rest) refl ∙ ap unequal (written-read (evenly v h) (omega (arith, few, h .cores-most)) rest)
+  said-nine : said (nine ++ rest) ≡ unequalSlots (evenly v h)
+  said-nine = said-turns (nine ++ rest) refl ∙ ap unequalSlots (written-read (evenly v h) (omega (arith, few, h .cores-most)) rest)
 
   pub same-said : SameBus (said (nine ++ rest)) (said (one ++ rest))
   same-said = rw (said-one, said-nine) (even-same v h)

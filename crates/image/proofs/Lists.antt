@@ -8,7 +8,7 @@ use native.Mathlib.Omega.{arith}
 use lib.Dec.{ltb, leb, eqb}
 use borrow.Author.Tests.{ltb-true, leb-true, eq-eqb}
 use Rattle.runs.specs.Nodes.{All}
-use Rattle.runs.specs.Runs.{listed}
+use Rattle.runs.specs.Runs.{isStart}
 use Rattle.bytes.specs.Bytes.{byteAt, wordAt, bytes, words}
 use Rattle.image.specs.Fields.{startsOk, below}
 use Rattle.image.specs.Promise.{NamesBelow}
@@ -56,8 +56,8 @@ words-some s p zero h = absurd (not-suc-le-zero h)
 words-some s p (suc n) h = (wordAt s p, words s (p + 2) n, refl)
 
 -- byte i is one of the list
-pub is-listed : (s : List ℕ) (p n i : ℕ) → i < n → listed (bytes s p n) (byteAt s (p + i)) ≡ true
-unfolding bytes listed
+pub is-listed : (s : List ℕ) (p n i : ℕ) → i < n → isStart (bytes s p n) (byteAt s (p + i)) ≡ true
+unfolding bytes isStart
 is-listed s p zero i h = absurd (not-suc-le-zero h)
 is-listed s p (suc n) zero h = rw (add-zero p, eq-eqb (byteAt s p) (byteAt s p) refl)
 is-listed s p (suc n) (suc i) h =
@@ -69,8 +69,8 @@ is-listed s p (suc n) (suc i) h =
     or-true false b e = e
 
 -- one byte more at the end of the list
-pub listed-more : (s : List ℕ) (p n o : ℕ) → listed (bytes s p (n + 1)) o ≡ (listed (bytes s p n) o || eqb (byteAt s (p + n)) o)
-unfolding bytes listed
+pub listed-more : (s : List ℕ) (p n o : ℕ) → isStart (bytes s p (n + 1)) o ≡ (isStart (bytes s p n) o || eqb (byteAt s (p + n)) o)
+unfolding bytes isStart
 listed-more s p zero o = rw add-zero (or-false (eqb (byteAt s p) o))
   where
     or-false : (a : Bool) → (a || false) ≡ a
@@ -79,7 +79,7 @@ listed-more s p zero o = rw add-zero (or-false (eqb (byteAt s p) o))
 listed-more s p (suc n) o =
     let e : suc n + 1 ≡ suc (n + 1) = omega arith in
     let q : p + 1 + n ≡ p + suc n = omega arith in
-    rw e (rw (← q) (ap (λ (x : Bool). eqb (byteAt s p) o || x) (listed-more s (p + 1) n o) ∙ or-assoc (eqb (byteAt s p) o) (listed (bytes s (p + 1) n) o) (eqb (byteAt s (p + 1 + n)) o)))
+    rw e (rw (← q) (ap (λ (x : Bool). eqb (byteAt s p) o || x) (listed-more s (p + 1) n o) ∙ or-assoc (eqb (byteAt s p) o) (isStart (bytes s (p + 1) n) o) (eqb (byteAt s (p + 1 + n)) o)))
   where
     or-assoc : (a b c : Bool) → (a || (b || c)) ≡ ((a || b) || c)
     or-assoc true b c = refl

@@ -14,7 +14,7 @@ use Rattle.schedule.specs.Said.{within}
 use Rattle.image.specs.Fields.{lengthOk, childrenOk}
 use Rattle.image.specs.Nodes.{fieldAt}
 use Rattle.image.specs.Conditions.{tagAt, lengthAt, bodyAt, GoodField, Passed, Accepting, longestImage}
-use Rattle.image.specs.declared.Task.{Task}
+use Rattle.image.specs.declared.Outline.{Outline}
 use Rattle.schedule.proofs.Numbers.{both, is-within}
 use Rattle.image.proofs.Lists.{names-below}
 use Rattle.image.proofs.Passing.{next-at, few, fewer}
@@ -64,7 +64,7 @@ module _ (s : List ℕ) where
       let m : lengthAt s (j + 3) ≤ 32 = rw q (node-most (suc j) (p (suc j + 2) (omega arith))) in
       rw (e, next-at s (j + 3)) (omega (arith, ends-most j (fewer s (j + 3) (suc j + 3) (omega arith) p)))
 
-  pub longest : (t : Task) → Accepting s t → length s ≤ longestImage
+  pub longest : (t : Outline) → Accepting s t → length s ≤ longestImage
   longest t a =
       let n : t .nodes + 2 ≡ t .entry + 3 = omega (arith, a .last) in
       let p = rw n at (a .complete .passed) in

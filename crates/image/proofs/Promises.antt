@@ -8,14 +8,14 @@ use Rattle.image.specs.Promise.{Sound, Judging}
 use Rattle.image.specs.Inner.{Placed}
 use Rattle.image.specs.declared.Refusal.{Refusal}
 use Rattle.image.specs.declared.fields.End.the-variants.{Stopped, Whole}
-use Rattle.image.specs.declared.Task.{Task}
+use Rattle.image.specs.declared.Outline.{Outline}
 use Rattle.image.specs.declared.Verdict.{Verdict}
 use Rattle.image.specs.declared.Verdict.the-variants.{Accepted, Refused}
 use Rattle.image.proofs.Passing.{ends}
 use Rattle.image.proofs.Reasons.{refused-when, when-refused, when-accepted}
 use Rattle.image.proofs.Sounds.{sound}
 
-promise : (s places : List ℕ) (v : Verdict) → v ≡ judged s → ((t : Task) → v ≡ Accepted t → Sound s t places) → Judging s v places
+promise : (s places : List ℕ) (v : Verdict) → v ≡ judged s → ((t : Outline) → v ≡ Accepted t → Sound s t places) → Judging s v places
 promise s places v e f =
     record {
       is = e;

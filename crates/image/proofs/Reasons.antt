@@ -20,7 +20,7 @@ use Rattle.image.specs.declared.Refusal.{Refusal}
 use Rattle.image.specs.declared.Refusal.the-variants.{Cut, Tag, Full, Length, Value, Forward, Unfinished, Deep, Long, Lines}
 use Rattle.image.specs.declared.fields.Judgement.the-variants.{Bad}
 use Rattle.image.specs.declared.fields.End.the-variants.{Whole}
-use Rattle.image.specs.declared.Task.{Task}
+use Rattle.image.specs.declared.Outline.{Outline}
 use Rattle.image.specs.declared.Verdict.{Verdict}
 use Rattle.image.specs.declared.Verdict.the-variants.{Accepted, Refused}
 use Rattle.image.proofs.Passing.{stops, ends}
@@ -76,14 +76,14 @@ module _ (s : List ℕ) where
   pub when-refused : (r : Refusal) (place : ℕ) → judged s ≡ Refused r place → Condition s r place
   when-refused r place e = subst (VerdictSays s) e (says s)
 
-  pub when-accepted : (t : Task) → judged s ≡ Accepted t → Accepting s t
+  pub when-accepted : (t : Outline) → judged s ≡ Accepted t → Accepting s t
   when-accepted t e = subst (VerdictSays s) e (says s)
 
   -- a whole scan ends with the image: its fuel never runs out
   pub whole-ends : (n : ℕ) → scan s ≡ Whole n → Complete s n
   whole-ends n e = subst (EndSays s) e (scan-says s)
 
-  pub accepted-when : (t : Task) → Accepting s t → judged s ≡ Accepted t
+  pub accepted-when : (t : Outline) → Accepting s t → judged s ≡ Accepted t
   unfolding wholeOf
   accepted-when t a =
       let n = t .nodes + 2 in
@@ -121,12 +121,12 @@ module _ (s : List ℕ) where
       own (too-wide n c h v w) = inr refl
 
   -- "The first that holds is returned; an image is accepted when none holds."
-  pub accepted-if-none : ((r : Refusal) (place : ℕ) → Condition s r place → ⊥) → (t : Task) × (judged s ≡ Accepted t)
+  pub accepted-if-none : ((r : Refusal) (place : ℕ) → Condition s r place → ⊥) → (t : Outline) × (judged s ≡ Accepted t)
   accepted-if-none free = by-verdict (judged s) refl
     where
-      by-verdict : (v : Verdict) → judged s ≡ v → (t : Task) × (judged s ≡ Accepted t)
+      by-verdict : (v : Verdict) → judged s ≡ v → (t : Outline) × (judged s ≡ Accepted t)
       by-verdict (Accepted t) e = (t, e)
       by-verdict (Refused r place) e = absurd (free r place (when-refused r place e))
 
-  pub none-if-accepted : (t : Task) → judged s ≡ Accepted t → (r : Refusal) (place : ℕ) → Condition s r place → ⊥
+  pub none-if-accepted : (t : Outline) → judged s ≡ Accepted t → (r : Refusal) (place : ℕ) → Condition s r place → ⊥
   none-if-accepted t e r place c = let f = refused-when r place c in let z : _≡_ {A = ℕ} 0 1 = cc in omega arith

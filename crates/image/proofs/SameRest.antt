@@ -15,7 +15,7 @@ use Rattle.image.specs.Conditions.{tagAt, lengthAt, bodyAt, GoodField, P
 use Rattle.image.specs.Judged.{judged}
 use Rattle.image.specs.Moved.{moved}
 use Rattle.image.specs.declared.Refusal.{Refusal}
-use Rattle.image.specs.declared.Task.{Task}
+use Rattle.image.specs.declared.Outline.{Outline}
 use Rattle.image.specs.declared.Verdict.{Verdict}
 use Rattle.image.specs.declared.Verdict.the-variants.{Accepted, Refused}
 use Rattle.image.proofs.Passing.{next-at, first-at}
@@ -140,7 +140,7 @@ module _ (a c rest : List ℕ) (d : ℕ) (h : Instead a c rest d) where
   pub starts-same : startsOf e ≡ startsOf s
   starts-same = rw (length-moved 0, body-moved 0) (agree-bytes s e (bodyAt s 1) (bodyAt s 1 + d) (lengthAt s 1) (body-agrees 0 (lengthAt s 1)))
 
-  accepting-moved : (t : Task) → Accepting s t → Accepting e t
+  accepting-moved : (t : Outline) → Accepting s t → Accepting e t
   accepting-moved t x = record {
     complete = complete-moved (t .nodes + 2) (x .complete);
     last = x .last;

@@ -6,9 +6,9 @@ use mathlib.Core.List.{List}
 use Prim.Native.Nat.{ℕ, _+_, _<_}
 use native.Mathlib.Omega.{arith}
 use lib.ListN.{getD}
-use Rattle.runs.specs.Runs.{listed}
+use Rattle.runs.specs.Runs.{isStart}
 use Rattle.runs.specs.Figures.{held, exitTimes, exitSet}
-use Rattle.runs.specs.Demand3.{InRange, Accepted as RunAccepted}
+use Rattle.runs.specs.Exact.{InRange, ValidTask}
 use Rattle.runs.proofs.Unlined.{exit-exact}
 use Rattle.bytes.specs.Bytes.{byteAt}
 use Rattle.schedule.specs.Said.{said, Ranged}
@@ -19,7 +19,7 @@ use Rattle.image.specs.Promise.{Starts, Fine, Sound, Standing}
 use Rattle.image.specs.Inner.{Placed}
 use Rattle.image.specs.declared.nodes.Node.{Node}
 use Rattle.image.specs.declared.nodes.Node.the-variants.{Plain, Bus as Block, Once, Sequence, Branch, Loop}
-use Rattle.image.specs.declared.Task.{Task}
+use Rattle.image.specs.declared.Outline.{Outline}
 use Rattle.image.specs.declared.Verdict.the-variants.{Accepted}
 use Rattle.image.proofs.Lists.{words-some, is-listed}
 use Rattle.image.proofs.Passing.{few, fewer, inside}
@@ -29,7 +29,7 @@ use Rattle.image.proofs.Levels.{falls}
 use Rattle.image.proofs.Fetches.{lines-few, no-lines}
 use Rattle.image.proofs.Reasons.{when-accepted}
 
-module _ (s : List ℕ) (t : Task) (a : Accepting s t) where
+module _ (s : List ℕ) (t : Outline) (a : Accepting s t) where
   good : (k : ℕ) → k < t .nodes + 2 → GoodField s k
   good k l = a .complete .passed k l
 
@@ -79,11 +79,11 @@ unfolding nodeAt
 range-at s n f = in-range s n (nodeOf s (fieldAt s (n + 2))) f
 
 -- the first start offset is one
-first : (s : List ℕ) (n : ℕ) → n ≡ lengthAt s 1 → Starts s n (said s .period) → (o : ℕ) × (o < said s .period) × (listed (startsOf s) o ≡ true)
+first : (s : List ℕ) (n : ℕ) → n ≡ lengthAt s 1 → Starts s n (said s .period) → (o : ℕ) × (o < said s .period) × (isStart (startsOf s) o ≡ true)
 first s n e u = (byteAt s (bodyAt s 1 + 0), u .low 0 (omega (arith, u .some)), is-listed s (bodyAt s 1) (lengthAt s 1) 0 (omega (arith, u .some)))
 
 -- the task that an accepted image says is one of the theorem's
-pub accepted : (s : List ℕ) (t : Task) → judged s ≡ Accepted t → RunAccepted (taskOf s t)
+pub accepted : (s : List ℕ) (t : Outline) → judged s ≡ Accepted t → ValidTask (taskOf s t)
 accepted s t e =
     let a = when-accepted s t e in
     let r = ranged-kept s t a in
@@ -97,11 +97,11 @@ accepted s t e =
     }
 
 -- node k of a sound task stands at its place, so `tree-here` and `fine-here` of proofs/Levels.antt say what it is
-pub standing : (s : List ℕ) (t : Task) (places : List ℕ) → Sound s t places → (k : ℕ) → k < t .nodes → Standing s k (getD places k 0)
+pub standing : (s : List ℕ) (t : Outline) (places : List ℕ) → Sound s t places → (k : ℕ) → k < t .nodes → Standing s k (getD places k 0)
 standing s t places h k l = record { passed = fewer s (k + 3) (t .nodes + 2) (omega arith) (h .complete .passed); place = h .placed k l }
 
 -- of an image of no lines the published exit set has exactly the offsets at which runs end
-pub unlined-exits : (s : List ℕ) (t : Task) → judged s ≡ Accepted t → t .lines ≡ 0
+pub unlined-exits : (s : List ℕ) (t : Outline) → judged s ≡ Accepted t → t .lines ≡ 0
     → (o : ℕ) → o < taskOf s t .bus .period → getD (exitSet (taskOf s t)) o false ≡ held (getD (exitTimes (taskOf s t)) o none)
 unlined-exits s t e z =
     let a = when-accepted s t e in

@@ -75,7 +75,7 @@ module _ (s : List ℕ) (k : Walk) (places : List ℕ) (w : Walkable s k places)
   walk-small = omega (arith, w .same .period, w .same .most, w .accepted .small)
 
   -- the bus and the task have the same period
-  pub period-same : k .bus .period ≡ k .task .period
+  pub period-same : k .bus .period ≡ k .outline .period
   unfolding owning
   period-same = w .same .period ∙ sym (w .sound .period-is)
 
@@ -83,12 +83,12 @@ module _ (s : List ℕ) (k : Walk) (places : List ℕ) (w : Walkable s k places)
   most-is : k .bus .most ≡ said s .most
   most-is = w .fit .longest ∙ w .same .most
 
-  module _ (n : ℕ) (low : n ≤ k .task .entry) where
+  module _ (n : ℕ) (low : n ≤ k .outline .entry) where
     pub valid-at : Valid (busMeant (k .bus) .most) (treeAt s n)
-    valid-at = rw (w .same .most) (node-valid (taskOf s (k .task)) (w .accepted) n (omega arith))
+    valid-at = rw (w .same .most) (node-valid (taskOf s (k .outline)) (w .accepted) n (omega arith))
 
     here : Standing s n (getD places n 0)
-    here = standing s (k .task) places (w .sound) n (omega (arith, w .sound .last))
+    here = standing s (k .outline) places (w .sound) n (omega (arith, w .sound .last))
 
     pub node-place : (getD places n 0 ≤ length s) × (n < 256)
     node-place = (inside-here s n _ here, few-here s n _ here)
@@ -109,11 +109,11 @@ module _ (s : List ℕ) (k : Walk) (places : List ℕ) (w : Walkable s k places)
 
     pub as-once : (x : OnceNumbers) → nodeOf s (getD places n 0) ≡ Once x
         → (treeAt s n ≡ Tree.once (x .line) (x .lowest) (x .highest) (x .hit)) × (1 ≤ x .lowest) × (x .lowest ≤ x .highest)
-        × (x .highest ≤ k .bus .most) × (x .hit ≤ 65535) × (x .line < k .task .lines) × (x .highest ≤ 255)
+        × (x .highest ≤ k .bus .most) × (x .hit ≤ 65535) × (x .line < k .outline .lines) × (x .highest ≤ 255)
     unfolding meant treeBy Fine
     as-once x e =
         let f = fine-here s n _ here (Once x) e in
-        let l : x .line + 1 ≤ k .task .lines = rw (w .sound .lines-is, ← ap nodeLines (node-here s n _ here (Once x) e)) (line-below s n (k .task .nodes) (omega (arith, w .sound .last))) in
+        let l : x .line + 1 ≤ k .outline .lines = rw (w .sound .lines-is, ← ap nodeLines (node-here s n _ here (Once x) e)) (line-below s n (k .outline .nodes) (omega (arith, w .sound .last))) in
         (tree-here s n _ here (Once x) e, f .1, f .2, omega (arith, f .3, most-is), f .4, omega arith, f .5)
 
     pub as-sequence : (c : Children) → nodeOf s (getD places n 0) ≡ Sequence c

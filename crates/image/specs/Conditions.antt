@@ -12,7 +12,7 @@ use Rattle.bytes.specs.Bytes.{byteAt, wordAt}
 use Rattle.schedule.specs.Said.{said}
 use Rattle.image.specs.Fields.{tagOk, lengthOk, valueOk, childrenOk}
 use Rattle.image.specs.Nodes.{fieldAt, linesOf, treeAt}
-use Rattle.image.specs.declared.Task.{Task}
+use Rattle.image.specs.declared.Outline.{Outline}
 use Rattle.image.specs.declared.Refusal.{Refusal}
 use Rattle.image.specs.declared.Refusal.the-variants.{Cut, Tag, Full, Length, Value, Forward, Unfinished, Deep, Long, Lines}
 
@@ -77,7 +77,7 @@ pub data Condition (s : List ℕ) : Refusal → ℕ → Type 0 where
       → 1024 < said s .period * power (linesOf s (suc n)) → Condition s Lines (length s)
 
 -- "an image is accepted when none holds": the good fields fill it, the last node is the entry, and the task is what they say
-pub record Accepting (s : List ℕ) (t : Task) : Type 0 where
+pub record Accepting (s : List ℕ) (t : Outline) : Type 0 where
   pub complete : Complete s (t .nodes + 2)
   pub last : t .nodes ≡ suc (t .entry)
   pub shallow : depth (treeAt s (t .entry)) ≤ 24

@@ -7,7 +7,7 @@ use lib.ListN.{length}
 use lib.Dec.{leb, ltb}
 use Rattle.runs.specs.Lines.{power}
 use Rattle.runs.specs.Nodes.{depth, visits}
-use Rattle.runs.specs.Runs.{Task as RunTask}
+use Rattle.runs.specs.Runs.{Task}
 use Rattle.bytes.specs.Bytes.{wordAt}
 use Rattle.schedule.specs.Said.{said}
 use Rattle.image.specs.Fields.{fieldOf}
@@ -106,7 +106,7 @@ judged s = onEnd s (scan s)
 
 -- the verdict in the document's terms: the task that the image says, or the number, the word and the place of a refusal
 pub data Outcome : Type 0 where
-  accepted : (task : RunTask) → Outcome
+  accepted : (task : Task) → Outcome
   refused : (number : ℕ) (word : String) (place : ℕ) → Outcome
 
 abbrev pub outcomeOf : List ℕ → Verdict → Outcome

@@ -5,14 +5,14 @@ use mathlib.Core.List.{List}
 use Prim.Native.Nat.{ℕ, zero, suc, _+_, _/_}
 use lib.Dec.{eqb}
 use Rattle.runs.specs.Nodes.{Kind as RunKind, may, always, Node as RunNode, Tree, Trees, tree, trees, linesTo}
-use Rattle.runs.specs.Runs.{Task as RunTask}
+use Rattle.runs.specs.Runs.{Task}
 use Rattle.bytes.specs.Bytes.{byteAt, wordAt, bytes, words}
 use Rattle.schedule.specs.Said.{said}
 use Rattle.image.specs.declared.nodes.Kind.{Kind}
 use Rattle.image.specs.declared.nodes.Kind.the-variants.{May, Always}
 use Rattle.image.specs.declared.nodes.Node.{Node}
 use Rattle.image.specs.declared.nodes.Node.the-variants.{Plain, Bus as Block, Once, Sequence, Branch, Loop}
-use Rattle.image.specs.declared.Task.{Task}
+use Rattle.image.specs.declared.Outline.{Outline}
 
 -- "Every field is a one-byte tag, a two-byte length of its body, and the body": where the field with k fields before it stands
 unfoldable pub fieldAt : List ℕ → ℕ → ℕ
@@ -85,5 +85,5 @@ abbrev pub startsOf : List ℕ → List ℕ
 startsOf s = bytes s (fieldAt s 1 + 3) (wordAt s (fieldAt s 1 + 1))
 
 -- what an accepted image says: "The last node is the entry."
-abbrev pub taskOf : List ℕ → Task → RunTask
+abbrev pub taskOf : List ℕ → Outline → Task
 taskOf s t = record { bus = said s; starts = startsOf s; lines = t .lines; nodeAt = nodeAt s; entry = t .entry }

@@ -13,7 +13,7 @@ use Rattle.image.specs.Conditions.{lengthAt, bodyAt, Passed, Complete, C
 use Rattle.image.specs.declared.nodes.Node.{Node}
 use Rattle.image.specs.declared.nodes.Node.the-variants.{Plain, Bus as Block, Once, Sequence, Branch, Loop}
 use Rattle.image.specs.declared.Refusal.{Refusal}
-use Rattle.image.specs.declared.Task.{Task}
+use Rattle.image.specs.declared.Outline.{Outline}
 use Rattle.image.specs.declared.Verdict.{Verdict}
 use Rattle.image.specs.declared.Verdict.the-variants.{Accepted, Refused}
 
@@ -44,7 +44,7 @@ Fine s own (Branch c) = (2 ≤ c .count) × (c .count ≤ 8) × (c .place + 2 * 
 Fine s own (Loop l) = (l .least ≤ l .greatest) × (l .greatest ≤ 10000) × (l .body < own)
 
 -- what holds of an accepted image, its task and the places beside it
-pub record Sound (s : List ℕ) (t : Task) (places : List ℕ) : Type 0 where
+pub record Sound (s : List ℕ) (t : Outline) (places : List ℕ) : Type 0 where
   pub period-is : t .period ≡ said s .period
   pub ranged : Ranged s
   pub starts-is : t .starts ≡ lengthAt s 1
@@ -77,4 +77,4 @@ pub record Judging (s : List ℕ) (verdict : Verdict) (places : List ℕ) : Type
   pub because : (r : Refusal) (place : ℕ) → verdict ≡ Refused r place → Condition s r place
   pub whenever : (r : Refusal) (place : ℕ) → Condition s r place → verdict ≡ Refused r place
   -- what an accepted image keeps
-  pub sound : (t : Task) → verdict ≡ Accepted t → Sound s t places
+  pub sound : (t : Outline) → verdict ≡ Accepted t → Sound s t places

@@ -3,7 +3,7 @@ use mathlib.Core.List.{List}
 use Prim.Native.Nat.{ℕ, _+_, _*_, _≤_}
 use lib.ListN.{length}
 use Rattle.runs.specs.Bus.{SameBus}
-use Rattle.runs.specs.Demand3.{Accepted}
+use Rattle.runs.specs.Exact.{ValidTask}
 use Rattle.bus.specs.Owning.{busMeant, Fit}
 use Rattle.schedule.specs.Said.{said}
 use Rattle.image.specs.Nodes.{taskOf}
@@ -12,8 +12,8 @@ use Rattle.image.specs.declared.Walk.{Walk}
 
 -- what judging has shown of the image, its task and the places of its nodes; and the bus is the one that the image says
 pub record Walkable (s : List ℕ) (k : Walk) (places : List ℕ) : Type 0 where
-  pub sound : Sound s (k .task) places
-  pub accepted : Accepted (taskOf s (k .task))
+  pub sound : Sound s (k .outline) places
+  pub accepted : ValidTask (taskOf s (k .outline))
   pub fit : Fit (k .bus)
   pub same : SameBus (busMeant (k .bus)) (said s)
 

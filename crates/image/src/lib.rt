@@ -51,7 +51,7 @@ pub enum Refusal {
 
 // An accepted image: the period of the bus, the number of start offsets in field 2, the number of lines and of sets of
 // lines, the number of nodes, and the last of them.
-pub struct Task {
+pub struct Outline {
     pub period: usize,
     pub starts: usize,
     pub lines: usize,
@@ -63,11 +63,11 @@ pub struct Task {
 // What both walks go by: the bus, and the accepted image's numbers.
 pub struct Walk {
     pub bus: Bus,
-    pub task: Task,
+    pub outline: Outline,
 }
 
 pub enum Verdict {
-    Accepted(Task),
+    Accepted(Outline),
     Refused(Refusal, usize),
 }
 
@@ -121,7 +121,7 @@ fn whole(image: &[u8], places: &[usize; 256], count: usize) -> Verdict
     if 1024 < period * sets {
         return Verdict::Refused(Refusal::Lines, image.len());
     }
-    Verdict::Accepted(Task {
+    Verdict::Accepted(Outline {
         period,
         starts: word(image, 4 + word(image, 1)),
         lines,

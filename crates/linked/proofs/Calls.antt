@@ -13,7 +13,7 @@ use Rattle.image.specs.Nodes.{taskOf}
 use Rattle.image.specs.Judged.{Outcome, outcomeOf, outcome, numberOf}
 use Rattle.image.specs.Promise.{Judging}
 use Rattle.image.specs.declared.Refusal.{Refusal}
-use Rattle.image.specs.declared.Task.{Task}
+use Rattle.image.specs.declared.Outline.{Outline}
 use Rattle.image.specs.declared.Verdict.{Verdict}
 use Rattle.image.specs.declared.Verdict.the-variants.{Accepted, Refused}
 use Rattle.figures.specs.declared.Totals.{Totals}
@@ -61,7 +61,7 @@ module _ (s lent : List ℕ) where
         ap (λ (t : Bool). cond t (2, lent) (judgedInto (outcome s) lent)) (le-ltb (length lent) 2 long)
         ∙ ap (λ (o : Outcome). judgedInto o lent) (sym (j .numbered))
 
-    pub judge-accepted : (k : Task) (after : List ℕ) → v ≡ Accepted k → after ≡ 0 ∷ k .period ∷ drop 2 lent → judgeCall s lent ≡ (0, after)
+    pub judge-accepted : (k : Outline) (after : List ℕ) → v ≡ Accepted k → after ≡ 0 ∷ k .period ∷ drop 2 lent → judgeCall s lent ≡ (0, after)
     judge-accepted k after e h =
         judge-is ∙ ap (λ (x : Verdict). judgedInto (outcomeOf s x) lent) e
         ∙ ap (λ (n : ℕ). (0, 0 ∷ n ∷ drop 2 lent)) (sym (j .sound k e .period-is)) ∙ ap (λ (l : List ℕ). (0, l)) (sym h)
@@ -138,11 +138,11 @@ module _ (s : List ℕ) (node lo hi : ℕ) (lent : List ℕ) where
       by-places true f p q z = absurd (let w = ap (λ (x : ℕ × List ℕ × List ℕ). x .0) (rw p at e) in omega arith)
       by-places false f p q z = (by-found f q (ap (λ (x : ℕ × List ℕ × List ℕ). x .0) (rw (p, q) at e) ∙ z), omega (arith, ltb-false (length lent) 2 p))
 
-      when-possible : (d : Editable s node lo hi) → 2 ≤ length lent → (status ≡ 0) × Leaves s (d .task) node lo hi image
+      when-possible : (d : Editable s node lo hi) → 2 ≤ length lent → (status ≡ 0) × Leaves s (d .outline) node lo hi image
       when-possible d long =
           let q = rw (le-ltb (length lent) 2 long, edit-is s node lo hi d, change-is s node lo hi d) at e in (
             sym (ap (λ (x : ℕ × List ℕ × List ℕ). x .0) q),
-            subst (Leaves s (d .task) node lo hi) (ap (λ (x : ℕ × List ℕ × List ℕ). x .1) q) (leaves s node lo hi d small),
+            subst (Leaves s (d .outline) node lo hi) (ap (λ (x : ℕ × List ℕ × List ℕ). x .1) q) (leaves s node lo hi d small),
           )
 
 -- ---- a preview: demand 3
@@ -168,12 +168,12 @@ module _ (s : List ℕ) (node lo hi : ℕ) (before lent : List ℕ) where
       record { possible = λ z. by-answer a refl (ap (λ (x : ℕ × List ℕ). x .0) e ∙ z); given = λ d room long. when-possible d (omega (arith, room)) (omega (arith, long)); fresh = λ d. fresh d ∙ is }
     where
       by-answer : (x : Answer) → a ≡ x → told (resultOf x) lent .0 ≡ 0
-          → (d : Editable s node lo hi) × (d .task .period ≤ length before) × (3 ≤ length lent)
+          → (d : Editable s node lo hi) × (d .outline .period ≤ length before) × (3 ≤ length lent)
       by-answer (Given t) q z = let w = p .possible t q in (w .0, omega (arith, w .1), omega (arith, enough))
       by-answer (NotGiven r place) q z = absurd (omega arith)
 
-      when-possible : (d : Editable s node lo hi) → d .task .period ≤ length before → 3 ≤ length lent → (status ≡ 0)
-          × WholeRuns (taskOf (imageWith s node lo hi) (d .task)) (getD said 0 0) (getD said 1 0) (getD said 2 0) table
+      when-possible : (d : Editable s node lo hi) → d .outline .period ≤ length before → 3 ≤ length lent → (status ≡ 0)
+          × WholeRuns (taskOf (imageWith s node lo hi) (d .outline)) (getD said 0 0) (getD said 1 0) (getD said 2 0) table
       when-possible d room long =
           let q = f d room in
           let t : told (resultOf (Given (q .totals))) lent ≡ (status, said) = rw (q .given) at e in

@@ -12,7 +12,7 @@ use lib.Dec.{ltb}
 use Prim.Native.Nat.{ℕ, _≤_}
 use Rattle.image.specs.Nodes.{taskOf}
 use Rattle.image.specs.Judged.{Outcome, accepted, refused as rejected, judged, outcome}
-use Rattle.image.specs.declared.Task.{Task}
+use Rattle.image.specs.declared.Outline.{Outline}
 use Rattle.image.specs.declared.Verdict.the-variants.{Accepted}
 use Rattle.figures.specs.Answers.{Result, given, refused, answer, tableAfter}
 use Rattle.figures.specs.WholeRuns.{WholeRuns}
@@ -47,7 +47,7 @@ figuresCall image table lent = toldCall (answer image table) (tableAfter image t
 
 -- demand 3 of the numbers that the program finds
 abbrev pub WholeFigures : List ℕ → ℕ → List ℕ → List ℕ → Type 0
-WholeFigures image status table found = (k : Task) → judged image ≡ Accepted k → status ≡ 0
+WholeFigures image status table found = (k : Outline) → judged image ≡ Accepted k → status ≡ 0
     → WholeRuns (taskOf image k) (getD found 0 0) (getD found 1 0) (getD found 2 0) table
 
 -- an edit: 0 and 0, or the number and the place
@@ -63,7 +63,7 @@ editCall image node lowest highest lent =
 -- status 0 if and only if the edit is possible and there are places enough; the image that the program then finds is such as `Leaves` says
 pub record WholeEdit (image : List ℕ) (node lowest highest : ℕ) (lent : List ℕ) (status : ℕ) (after : List ℕ) : Type 0 where
   pub possible : status ≡ 0 → Editable image node lowest highest × (2 ≤ length lent)
-  pub done : (e : Editable image node lowest highest) → 2 ≤ length lent → (status ≡ 0) × Leaves image (e .task) node lowest highest after
+  pub done : (e : Editable image node lowest highest) → 2 ≤ length lent → (status ≡ 0) × Leaves image (e .outline) node lowest highest after
 
 -- a preview: the status, the table and the answer at exit, as of figures
 abbrev pub previewCall : List ℕ → ℕ → ℕ → ℕ → List ℕ → List ℕ → ℕ × List ℕ × List ℕ
@@ -73,9 +73,9 @@ previewCall image node lowest highest table lent =
 -- status 0 if and only if the edit is possible and there are places enough; then demand 3 holds of the edited image and the numbers that the
 -- program finds. Whatever the places, a possible edit's preview leaves what the figures of the edited image would
 pub record WholePreview (image : List ℕ) (node lowest highest : ℕ) (before lent : List ℕ) (status : ℕ) (table found : List ℕ) : Type 0 where
-  pub possible : status ≡ 0 → (e : Editable image node lowest highest) × (e .task .period ≤ length before) × (3 ≤ length lent)
-  pub given : (e : Editable image node lowest highest) → e .task .period ≤ length before → 3 ≤ length lent → (status ≡ 0)
-      × WholeRuns (taskOf (imageWith image node lowest highest) (e .task)) (getD found 0 0) (getD found 1 0) (getD found 2 0) table
+  pub possible : status ≡ 0 → (e : Editable image node lowest highest) × (e .outline .period ≤ length before) × (3 ≤ length lent)
+  pub given : (e : Editable image node lowest highest) → e .outline .period ≤ length before → 3 ≤ length lent → (status ≡ 0)
+      × WholeRuns (taskOf (imageWith image node lowest highest) (e .outline)) (getD found 0 0) (getD found 1 0) (getD found 2 0) table
   pub fresh : Editable image node lowest highest → figuresCall (imageWith image node lowest highest) before lent ≡ (status, table, found)
 
 -- finishes: 64 numbers, and 0 and 0, or the number and the place of a refusal; later places keep their contents

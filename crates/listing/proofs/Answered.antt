@@ -13,22 +13,22 @@ use Rattle.figures.specs.Answers.{Result, resultOf, answer, tableAfter}
 use Rattle.figures.specs.Promise.{Equal}
 use Rattle.text.specs.declared.Written.{Written}
 use Rattle.text.specs.Text.{figureLines}
-use Rattle.text.specs.Buffer.{listed, refusedListed, figuresListed}
+use Rattle.text.specs.Buffer.{intoBuffer, refusedListed, figuresListed}
 use Rattle.text.proofs.Answers.{figures-listed}
 use Rattle.listing.specs.Listings.{textOf, lent, listingOf}
 
 module _ (s table : List ℕ) (a : Answer) (e : Equal s lent a table) (out : List ℕ) where
-  lines : listed (listingOf s) out ≡ listed (textOf (resultOf a) table) out
+  lines : intoBuffer (listingOf s) out ≡ intoBuffer (textOf (resultOf a) table) out
   unfolding listingOf
-  lines = ap₂ (λ (r : Result) (t : List ℕ). listed (textOf r t) out) (sym (e .result)) (sym (e .table))
+  lines = ap₂ (λ (r : Result) (t : List ℕ). intoBuffer (textOf r t) out) (sym (e .result)) (sym (e .table))
 
   pub lists-refused : (r : Refusal) (n place : ℕ) (w : Written) (after : List ℕ) → a ≡ Refused r place → n ≡ numberOf r
-      → refusedListed n place out ≡ (w, after) → listed (listingOf s) out ≡ (w, after)
+      → refusedListed n place out ≡ (w, after) → intoBuffer (listingOf s) out ≡ (w, after)
   lists-refused r n place w after g is h =
-      lines ∙ ap (λ (x : Answer). listed (textOf (resultOf x) table) out) g ∙ ap (λ (m : ℕ). refusedListed m place out) (sym is) ∙ h
+      lines ∙ ap (λ (x : Answer). intoBuffer (textOf (resultOf x) table) out) g ∙ ap (λ (m : ℕ). refusedListed m place out) (sym is) ∙ h
 
   pub lists-given : (f : Totals) (w : Written) (after : List ℕ) → a ≡ Given f → 256 ≤ length table
-      → figuresListed (f .tight) (f .published) (f .exits) 256 table out ≡ (w, after) → listed (listingOf s) out ≡ (w, after)
+      → figuresListed (f .tight) (f .published) (f .exits) 256 table out ≡ (w, after) → intoBuffer (listingOf s) out ≡ (w, after)
   lists-given f w after g long h =
-      lines ∙ ap (λ (x : Answer). listed (textOf (resultOf x) table) out) g
+      lines ∙ ap (λ (x : Answer). intoBuffer (textOf (resultOf x) table) out) g
       ∙ sym (figures-listed (f .tight) (f .published) (f .exits) 256 table out (omega arith) long) ∙ h

@@ -4,13 +4,13 @@
 // and the buffer at entry: the listing of specs/Listings.antt at the buffer's start and the rest unchanged, or, where the buffer has
 // fewer than 8,192 bytes, `Short` and no change. The program above it only reads and writes.
 ghost use mathlib.Core.Path.{_≡_};
-ghost use Rattle.text.specs.Buffer.{listed};
+ghost use Rattle.text.specs.Buffer.{intoBuffer};
 ghost use Rattle.listing.specs.Listings.{listingOf};
 use figures::Answer;
 use text::Written;
 
 pub fn listing(image: &[u8], out: &mut [u8]) -> Written
-    ensures { λ r. ⌜ listed (listingOf (now (image .entry))) (now (out .entry)) ≡ (r, now (out .exit)) ⌝ }
+    ensures { λ r. ⌜ intoBuffer (listingOf (now (image .entry))) (now (out .entry)) ≡ (r, now (out .exit)) ⌝ }
 {
     let mut table = [18446744073709551615u64; 256];
     let answer = figures::figures(image, &mut table);

@@ -26,13 +26,13 @@ use Rattle.published.proofs.Joins.{join-at}
 use Rattle.published.proofs.Parts.{cost-all-more, cost-any-more}
 
 -- a node's cost is at most 65,535 for each visit
-pub outcome-small : (s : List ℕ) (k : Walk) (places : List ℕ) → Walkable s k places → (node : ℕ) → node ≤ k .task .entry → (x : Set) (r : Outcome)
+pub outcome-small : (s : List ℕ) (k : Walk) (places : List ℕ) → Walkable s k places → (node : ℕ) → node ≤ k .outline .entry → (x : Set) (r : Outcome)
     → Published (k .bus) (treeAt s node) x r → r .cost ≤ 65535 * visits (treeAt s node)
 outcome-small s k places w node low x r h =
     rw (h .costs)
     (cost-bounded (busMeant (k .bus)) (walk-lawful s k places w) (walk-small s k places w) (treeAt s node) (valid-at s k places w node low) (bits (k .bus) x))
 
-module _ (s : List ℕ) (k : Walk) (places : List ℕ) (w : Walkable s k places) (node : ℕ) (low : node ≤ k .task .entry)
+module _ (s : List ℕ) (k : Walk) (places : List ℕ) (w : Walkable s k places) (node : ℕ) (low : node ≤ k .outline .entry)
     (p n : ℕ) (named : Named s p n node) (i : ℕ) (h : i < n) (child : ℕ) (is : child ≡ wordAt s (p + 2 * i)) where
   -- the visits of the children from j on
   abbrev ahead : ℕ → ℕ

@@ -40,14 +40,14 @@ afterAny b xs X o = carriedAny (busMeant b) (offsets (busMeant b .period)) false
 -- the walk of a node from a set
 pub record Ready (s : List ℕ) (k : Walk) (places : List ℕ) (node : ℕ) (x : Set) : Type 0 where
   pub walkable : Walkable s k places
-  pub low : node ≤ k .task .entry
+  pub low : node ≤ k .outline .entry
   pub few : visits (treeAt s node) ≤ 100000
   pub within : Within (k .bus .period) x
 
 -- the walk of a node's children
 pub record ReadyAll (s : List ℕ) (k : Walk) (places : List ℕ) (node place count : ℕ) (x : Set) : Type 0 where
   pub walkable : Walkable s k places
-  pub low : node ≤ k .task .entry
+  pub low : node ≤ k .outline .entry
   pub named : Named s place count node
   pub few : visitsAll (childTrees s place count) ≤ 100000
   pub within : Within (k .bus .period) x
@@ -93,7 +93,7 @@ pub record UnrolledAt (b : Bus) (body : Tree) (least done left : ℕ) (p r : Pas
 -- the walk of a loop
 pub record ReadyRepeat (s : List ℕ) (k : Walk) (places : List ℕ) (node : ℕ) (l : Loop) (x : Set) : Type 0 where
   pub walkable : Walkable s k places
-  pub low : node ≤ k .task .entry
+  pub low : node ≤ k .outline .entry
   pub below : l .body < node
   pub many : l .greatest ≤ 10000
   pub few : l .greatest * visits (treeAt s (l .body)) ≤ 100000
@@ -146,7 +146,7 @@ pub record SkippedBy (left : ℕ) (t r : Turns) : Type 0 where
 -- `left` iterations of a loop's body are to come
 pub record ReadyLoop (s : List ℕ) (k : Walk) (places : List ℕ) (body left : ℕ) (t : Turns) : Type 0 where
   pub walkable : Walkable s k places
-  pub low : body ≤ k .task .entry
+  pub low : body ≤ k .outline .entry
   pub many : t .watch .done + left ≤ 10000
   pub few : t .pass .cost + 65535 * (left * visits (treeAt s body)) ≤ 6553500000
   pub within : Within (k .bus .period) (t .pass .cur)

@@ -10,7 +10,7 @@ use Rattle.runs.specs.Bus.{Bus, SameBus}
 use Rattle.runs.specs.Clock.{withLines}
 use Rattle.runs.specs.Runs.{Task}
 use Rattle.runs.specs.Figures.{Time, longestOf, sum, held, treeOf, endTimes, atOffsets, exitTimes, exitCount, tight, published, exitSet}
-use Rattle.runs.specs.Demand3.{Accepted}
+use Rattle.runs.specs.Exact.{ValidTask}
 use Rattle.runs.proofs.Whole.{whole-valid}
 use Rattle.runs.proofs.SameBuses.{times-same, published-same, set-same}
 
@@ -26,7 +26,7 @@ pub record SameAnswers (t t' : Task) : Type 0 where
   pub counts : exitCount t ≡ exitCount t'
   pub sets : exitSet t ≡ exitSet t'
 
-pub same-answers : (t : Task) (b : Bus) → Accepted t → SameBus (t .bus) b → SameAnswers t (onBus b t)
+pub same-answers : (t : Task) (b : Bus) → ValidTask t → SameBus (t .bus) b → SameAnswers t (onBus b t)
 same-answers t b ok same =
     let ends : endTimes t ≡ endTimes (onBus b t) = times-same (t .bus) b same (treeOf t) (whole-valid t ok) (t .starts) (t .lines) (ok .lawful .period-pos) in
     let table : exitTimes t ≡ exitTimes (onBus b t) = ap₂ (λ (P : ℕ) (T : List Time). atOffsets (withLines P (t .lines)) P T) (same .period) ends in

@@ -6,8 +6,8 @@ use native.Mathlib.Nat.{mod-eq-of-lt, mod-lt, add-mod-right, add-zero, zero-add,
 use native.Mathlib.Omega.{arith}
 use Prim.Native.Nat.{ℕ, zero, suc, _+_, _-_, _*_, _%_, _≤_, _<_}
 use Rattle.runs.specs.Bus.{SameBus}
-use Rattle.runs.specs.Slots.{Slots, first, periodOf, equal, Sound}
-use Rattle.runs.specs.Schedules.{total, owns, ownsNext, turnsFrom, even, unequal, owning}
+use Rattle.runs.specs.Slots.{Slots, first, periodOf, equalSlots, HasSlot}
+use Rattle.runs.specs.Schedules.{total, owns, ownsNext, turnsFrom, even, unequalSlots, owning}
 use Rattle.runs.proofs.Cases.{split}
 use Rattle.runs.proofs.Waits.{first-one, first-same}
 use Rattle.runs.proofs.SlotsLaws.{equal-lawful, slot-in, may-in, may-before, may-after}
@@ -57,7 +57,7 @@ bool-same true t f g = sym (f refl)
 bool-same false true f g = g refl
 bool-same false false f g = refl
 
-module _ (v : Slots) (ok : Sound v) (two : 2 ≤ v .cores) where
+module _ (v : Slots) (ok : HasSlot v) (two : 2 ≤ v .cores) where
   abbrev pub own : ℕ → Bool
   own = owns (v .core) (turnsFrom 0 (v .cores) (v .slot))
 
@@ -96,9 +96,9 @@ module _ (v : Slots) (ok : Sound v) (two : 2 ≤ v .cores) where
       next-of (periodOf v) own e o (λ i l.
       rw (mod-eq-of-lt (let z : o + i < periodOf v = omega (arith, slot-in v ok) in z)) (owns-slot (o + i) (omega arith) (omega arith)))
 
-  pub may-same : (e o : ℕ) → 1 ≤ e → e ≤ v .slot → o < periodOf v → ownsNext (periodOf v) own e o ≡ equal v .mayStart e o
+  pub may-same : (e o : ℕ) → 1 ≤ e → e ≤ v .slot → o < periodOf v → ownsNext (periodOf v) own e o ≡ equalSlots v .mayStart e o
   may-same e o pos le lt =
-      bool-same (ownsNext (periodOf v) own e o) (equal v .mayStart e o)
+      bool-same (ownsNext (periodOf v) own e o) (equalSlots v .mayStart e o)
       (λ h. let (a, c) = next-only e o pos (omega arith) lt h in may-in v e o a c)
       (λ h. split (first v) o
       (λ l. split (o + e) (first v + v .slot)
@@ -116,17 +116,17 @@ module _ (v : Slots) (ok : Sound v) (two : 2 ≤ v .cores) where
       let (a, c) = next-only (suc (v .slot)) o (omega arith) (omega arith) i h in
       omega arith)
 
-  wait-same : (e o : ℕ) → 1 ≤ e → e ≤ v .slot → o < periodOf v → owning (periodOf v) own .wait e o ≡ equal v .wait e o
-  unfolding equal owning
+  wait-same : (e o : ℕ) → 1 ≤ e → e ≤ v .slot → o < periodOf v → owning (periodOf v) own .wait e o ≡ equalSlots v .wait e o
+  unfolding equalSlots owning
   wait-same e o pos le lt =
-      first-one (λ i. equal v .mayStart e ((o + i) % periodOf v)) (owning (periodOf v) own .wait e o) (equal v .wait e o)
-      (first-same (λ i. ownsNext (periodOf v) own e ((o + i) % periodOf v)) (λ i. equal v .mayStart e ((o + i) % periodOf v)) (owning (periodOf v) own .wait e o)
+      first-one (λ i. equalSlots v .mayStart e ((o + i) % periodOf v)) (owning (periodOf v) own .wait e o) (equalSlots v .wait e o)
+      (first-same (λ i. ownsNext (periodOf v) own e ((o + i) % periodOf v)) (λ i. equalSlots v .mayStart e ((o + i) % periodOf v)) (owning (periodOf v) own .wait e o)
       (λ i. may-same e ((o + i) % periodOf v) pos le (mod-lt _ (omega (arith, slot-in v ok, ok .slot-pos))))
       (owning-lawful (periodOf v) own (omega (arith, slot-in v ok, ok .slot-pos)) .least e o pos (rw most-same le) lt))
       (equal-lawful v ok .least e o pos le lt)
 
-  pub even-owning : SameBus (owning (periodOf v) own) (equal v)
-  unfolding equal owning
+  pub even-owning : SameBus (owning (periodOf v) own) (equalSlots v)
+  unfolding equalSlots owning
   even-owning = record {
     period = refl;
     most = most-same;
@@ -135,5 +135,5 @@ module _ (v : Slots) (ok : Sound v) (two : 2 ≤ v .cores) where
   }
 
   -- "An accepted image whose equal schedule is written either way": both are the same bus.
-  pub either-way : SameBus (unequal (even v)) (equal v)
+  pub either-way : SameBus (unequalSlots (even v)) (equalSlots v)
   either-way = rw (total-even 0 (v .cores) (v .slot)) even-owning

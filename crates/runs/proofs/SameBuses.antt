@@ -10,7 +10,7 @@ use Prim.Native.Nat.{ℕ, zero, suc, _+_, _-_, _≤_, _<_, max}
 use Rattle.runs.specs.Bus.{Bus, SameBus}
 use Rattle.runs.specs.Clock.{Places, offsets, withLines}
 use Rattle.runs.specs.Nodes.{Kind, may, always, Tree, Trees, plain, bus, once, sequence, branch, loop, none as done, more}
-use Rattle.runs.specs.Runs.{listed}
+use Rattle.runs.specs.Runs.{isStart}
 use Rattle.runs.specs.Carried.{row, iterate, joinBelow, joinFrom, moved, keep, blocked, fetchedOnce, carried, carriedAll, carriedAny}
 use Rattle.runs.specs.Figures.{longer, later, exits, times, largest, sum, accessCost, cost, costAll, costAny, startTimes, startSet}
 use Rattle.runs.proofs.Executions.{Valid, Valids}
@@ -132,16 +132,16 @@ module _ (b b' : Bus) (same : SameBus b b') (x : Tree) (v : Valid (b .most) x) (
   unfolding startTimes
   times-same n pos =
       carried-same b b' (b .most) (same .wait) (withLines (b .period) n) (lines-turn (b .period) pos n .offset-in) none longer later x v _
-      ∙ ap (λ (P : ℕ). times b' (withLines P n) x (row (withLines P n .size) (λ p. cond (ltb p P && listed starts p) (some 0) none))) (same .period)
+      ∙ ap (λ (P : ℕ). times b' (withLines P n) x (row (withLines P n .size) (λ p. cond (ltb p P && isStart starts p) (some 0) none))) (same .period)
 
   pub published-same : cost b x (startSet b starts) ≡ cost b' x (startSet b' starts)
   unfolding startSet
   published-same =
       cost-same b b' (b .most) (same .wait) (same .period) x v (startSet b starts)
-      ∙ ap (λ (P : ℕ). cost b' x (row P (λ o. listed starts o))) (same .period)
+      ∙ ap (λ (P : ℕ). cost b' x (row P (λ o. isStart starts o))) (same .period)
 
   pub set-same : exits b x (startSet b starts) ≡ exits b' x (startSet b' starts)
   unfolding startSet
   set-same =
       exits-same b b' (b .most) (same .wait) (same .period) x v (startSet b starts)
-      ∙ ap (λ (P : ℕ). exits b' x (row P (λ o. listed starts o))) (same .period)
+      ∙ ap (λ (P : ℕ). exits b' x (row P (λ o. isStart starts o))) (same .period)

@@ -6,7 +6,7 @@ use native.Mathlib.Nat.{add-mul, one-mul}
 use native.Mathlib.Omega.{arith}
 use Prim.Native.Nat.{ℕ, _+_, _-_, _*_, _≤_, _<_}
 use Rattle.runs.specs.Bus.{IsWait}
-use Rattle.runs.specs.Slots.{Slots, first, periodOf, equation7, WaitCase, before, inside, after, equal, Sound}
+use Rattle.runs.specs.Slots.{Slots, first, periodOf, equation7, WaitCase, before, inside, after, equalSlots, HasSlot}
 use Rattle.runs.proofs.SlotsLaws.{by-case, equation7-is}
 
 -- a case that holds, with its wait
@@ -20,7 +20,7 @@ pub record OneCase (v : Slots) (e o : ℕ) : Type 0 where
   -- any two are the same: no two cases hold, and no two waits
   pub only : (c d : SomeCase v e o) → c ≡ d
   -- and its wait is the least number of cycles after which the access may start
-  pub clock : (w : ℕ) → WaitCase v e o w → IsWait (equal v) e o w
+  pub clock : (w : ℕ) → WaitCase v e o w → IsWait (equalSlots v) e o w
 
 -- (p + 1) × slot is where the core's slot ends
 pub slot-ends : (v : Slots) → (v .core + 1) * v .slot ≡ first v + v .slot
@@ -48,11 +48,11 @@ module _ (v : Slots) (e : ℕ) (le : e ≤ v .slot) (o : ℕ) where
   same (after h) (after k) = ap (λ z. (first v + periodOf v - o, after z)) (le-prop h k)
 
 -- The theorem, for every bus with a slot of at least 1 cycle and a core number below the cores.
-pub three-cases : (v : Slots) → Sound v → (e : ℕ) → 1 ≤ e → e ≤ v .slot → (o : ℕ) → o < periodOf v → OneCase v e o
+pub three-cases : (v : Slots) → HasSlot v → (e : ℕ) → 1 ≤ e → e ≤ v .slot → (o : ℕ) → o < periodOf v → OneCase v e o
 three-cases v ok e pos le o lt = record {
   one = exists v e le o;
   only = λ c d. same v e le o (c .1) (d .1);
-  clock = λ w c. subst (λ (x : SomeCase v e o). IsWait (equal v) e o (x .0)) (same v e le o (exists v e le o) c) (equation7-is v ok e pos le o lt .0);
+  clock = λ w c. subst (λ (x : SomeCase v e o). IsWait (equalSlots v) e o (x .0)) (same v e le o (exists v e le o) c) (equation7-is v ok e pos le o lt .0);
 }
 
 -- so that the wait of any case that holds is Equation 7's

@@ -11,7 +11,7 @@ use Rattle.runs.specs.Clock.{Places, State, on, offsets, withLines, tick
 use Rattle.runs.specs.Nodes.{Node, Children, All, nodeLines}
 use Rattle.runs.specs.Runs.{Task, placesOf, finalOffset, Ends, Run, Does, DoesAll, DoesTimes, passes, may-pass, accesses, first-time, later-time, in-order, one-of, repeats, end, next, enough, again}
 use Rattle.runs.specs.Figures.{Time, held, treeOf, exitTimes, exitSet}
-use Rattle.runs.specs.Demand3.{Longest, nothing, reached, Accepted}
+use Rattle.runs.specs.Exact.{Longest, nothing, reached, ValidTask}
 use Rattle.runs.proofs.Accesses.{state-path}
 use Rattle.runs.proofs.ByNumber.{any-of, below, exec-does}
 use Rattle.runs.proofs.TimesExact.{Any, TreeRun, longest-same, exits-exact}
@@ -24,7 +24,7 @@ any-held {w = true} (nothing h) k = absurd (let x = k .1 refl in h (x .0) (x .1)
 any-held {w = false} (nothing h) k = refl
 any-held {w = w} (reached x h) k = k .0 _ x
 
-module _ (t : Task) (ok : Accepted t) (unlined : (n : ℕ) → n < suc (t .entry) → nodeLines (t .nodeAt n) ≡ 0) where
+module _ (t : Task) (ok : ValidTask t) (unlined : (n : ℕ) → n < suc (t .entry) → nodeLines (t .nodeAt n) ≡ 0) where
   abbrev P : ℕ
   P = t .bus .period
 

@@ -10,7 +10,7 @@ use lib.Bits.{bitOr, or-lt}
 use lib.Dec.{eqb, ltb}
 use borrow.Author.Tests.{lt-ltb, le-ltb}
 use Rattle.runs.specs.Bus.{Bus as RunBus, SameBus}
-use Rattle.runs.specs.Schedules.{Turn, total, owns, unequal}
+use Rattle.runs.specs.Schedules.{Turn, total, owns, unequalSlots}
 use Rattle.runs.proofs.OwningSame.{owning-same}
 use Rattle.runs.proofs.Cases.{split, either}
 use Rattle.offsets.specs.declared.Set.{Set}
@@ -18,7 +18,7 @@ use Rattle.offsets.specs.Sets.{value, has}
 use Rattle.offsets.proofs.Members.{has-none, has-above, has-ones, has-or}
 use Rattle.offsets.proofs.Raises.{in-up, from-up}
 use Rattle.bus.specs.declared.Bus.{Bus}
-use Rattle.bus.specs.Listed.{begun}
+use Rattle.bus.specs.Stretches.{begun}
 use Rattle.bus.specs.Owning.{busMeant, owns as owns-of}
 use Rattle.bytes.specs.Bytes.{byteAt, wordAt}
 use Rattle.schedule.specs.Said.{turnsAt, scheduleAt, Scheduled}
@@ -208,7 +208,7 @@ module _ (s : List ℕ) (ok : Scheduled (scheduleAt s)) (r : Divided) (i : ℕ) 
       }
 
 -- the program's bus is then the schedule's
-pub divided-same : (s : List ℕ) (r : Divided) (b : Bus) → Divides s r → b .period ≡ r .period → b .own ≡ r .own → busMeant b ≡ unequal (scheduleAt s)
+pub divided-same : (s : List ℕ) (r : Divided) (b : Bus) → Divides s r → b .period ≡ r .period → b .own ≡ r .own → busMeant b ≡ unequalSlots (scheduleAt s)
 divided-same s r b d e f =
     let P = total (scheduleAt s .turns) in
     let g : b .period ≡ P = e ∙ d .period in

@@ -10,7 +10,7 @@ use borrow.Author.Tests.{lt-ltb, le-ltb}
 use Prim.Native.Nat.{ℕ, zero, suc, _+_, _-_, _*_, _%_, _≤_, _<_}
 use Rattle.runs.specs.Schedules.{Turn, total, owns}
 use Rattle.runs.proofs.Cases.{split}
-use Rattle.bus.specs.Listed.{begun}
+use Rattle.bus.specs.Stretches.{begun}
 
 -- the same offsets begin as many
 pub begun-same : (P : ℕ) (own own' : ℕ → Bool) → ((o : ℕ) → o < P → own o ≡ own' o) → (k : ℕ) → k ≤ P → begun P own k ≡ begun P own' k

@@ -9,8 +9,8 @@ use lib.Dec.{leb, ltb}
 use lib.ListN.{length}
 use borrow.Author.Tests.{ltb-true, leb-true, eq-eqb, ne-eqb, le-leb, lt-ltb, le-ltb}
 use Rattle.runs.specs.Bus.{Bus, First, Lawful, SameBus}
-use Rattle.runs.specs.Slots.{equation7, equal}
-use Rattle.runs.specs.Schedules.{Turn, Schedule, total, owns, ownsNext, owning, unequal}
+use Rattle.runs.specs.Slots.{equation7, equalSlots}
+use Rattle.runs.specs.Schedules.{Turn, Schedule, total, owns, ownsNext, owning, unequalSlots}
 use Rattle.runs.proofs.SlotsLaws.{equal-lawful}
 use Rattle.runs.proofs.SchedulesLaws.{owning-lawful, most-le}
 use Rattle.bus.specs.Waits.{Ranges}
@@ -26,20 +26,20 @@ use Rattle.schedule.proofs.Numbers.{eq-or-ne, both, is-within}
 -- ---- by the tag
 
 module _ (s : List ℕ) where
-  pub said-slots : byteAt s 0 ≡ 1 → said s ≡ equal (slotsAt s)
+  pub said-slots : byteAt s 0 ≡ 1 → said s ≡ equalSlots (slotsAt s)
   unfolding said
-  said-slots e = ap (λ t. cond t (unequal (scheduleAt s)) (equal (slotsAt s))) (ne-eqb (byteAt s 0) 9 (λ q. omega arith))
+  said-slots e = ap (λ t. cond t (unequalSlots (scheduleAt s)) (equalSlots (slotsAt s))) (ne-eqb (byteAt s 0) 9 (λ q. omega arith))
 
-  pub said-turns : byteAt s 0 ≡ 9 → said s ≡ unequal (scheduleAt s)
+  pub said-turns : byteAt s 0 ≡ 9 → said s ≡ unequalSlots (scheduleAt s)
   unfolding said
-  said-turns e = ap (λ t. cond t (unequal (scheduleAt s)) (equal (slotsAt s))) (eq-eqb (byteAt s 0) 9 e)
+  said-turns e = ap (λ t. cond t (unequalSlots (scheduleAt s)) (equalSlots (slotsAt s))) (eq-eqb (byteAt s 0) 9 e)
 
   pub slots-period : byteAt s 0 ≡ 1 → said s .period ≡ byteAt s 3 * byteAt s 4
-  unfolding equal
+  unfolding equalSlots
   slots-period e = ap (λ (b : Bus). b .period) (said-slots e)
 
   pub slots-most : byteAt s 0 ≡ 1 → said s .most ≡ byteAt s 4
-  unfolding equal
+  unfolding equalSlots
   slots-most e = ap (λ (b : Bus). b .most) (said-slots e)
 
   pub turns-period : byteAt s 0 ≡ 9 → said s .period ≡ total (scheduleAt s .turns)
@@ -152,7 +152,7 @@ module _ (s : List ℕ) where
 
   -- the wait: Equation 7, or the least number of cycles after which the core owns e consecutive ones
   pub slots-wait : byteAt s 0 ≡ 1 → (e o : ℕ) → said s .wait e o ≡ equation7 (slotsAt s) e o
-  unfolding equal
+  unfolding equalSlots
   slots-wait t e o = ap (λ (b : Bus). b .wait e o) (said-slots s t)
 
   pub turns-wait : Ranged s → byteAt s 0 ≡ 9 → (e o : ℕ) → 1 ≤ e → e ≤ said s .most → o < total (scheduleAt s .turns)

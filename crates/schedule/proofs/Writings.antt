@@ -9,8 +9,8 @@ use lib.ListN.{length}
 use borrow.Author.Tests.{le-leb, eq-eqb, ne-eqb}
 use Prim.Native.Nat.{ℕ, zero, suc, _+_, _-_, _*_, _/_, _≤_, _<_}
 use Rattle.runs.specs.Bus.{SameBus}
-use Rattle.runs.specs.Slots.{equal}
-use Rattle.runs.specs.Schedules.{Turn, Schedule, turnsFrom, even, unequal}
+use Rattle.runs.specs.Slots.{equalSlots}
+use Rattle.runs.specs.Schedules.{Turn, Schedule, turnsFrom, even, unequalSlots}
 use Rattle.runs.proofs.EvenSchedules.{total-even, either-way}
 use Rattle.bus.specs.Waits.{slotsOf, Ranges}
 use Rattle.bus.specs.declared.Slots.{Slots}
@@ -106,5 +106,5 @@ module _ (v : Slots) (h : Ranges v) where
     even-named (v .core) 0 (v .cores) (v .slot) (omega arith) (omega (arith, h .core-lt)),
   )
 
-  pub even-same : SameBus (unequal evenly) (equal (slotsOf v))
+  pub even-same : SameBus (unequalSlots evenly) (equalSlots (slotsOf v))
   even-same = either-way (slotsOf v) (slots-sound v h) (h .cores-least)

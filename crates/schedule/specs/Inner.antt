@@ -5,7 +5,7 @@ use Prim.Native.Nat.{ℕ, _≤_, _<_}
 use Rattle.runs.specs.Schedules.{total, owns}
 use Rattle.offsets.specs.Sets.{value, has}
 use Rattle.bus.specs.Owning.{Parted}
-use Rattle.bus.specs.Listed.{begun}
+use Rattle.bus.specs.Stretches.{begun}
 use Rattle.schedule.specs.Said.{scheduleAt}
 use Rattle.schedule.specs.declared.Divided.{Divided}
 

@@ -8,8 +8,8 @@ use Prim.Native.Nat.{ℕ, zero, suc, _+_, _*_, _/_, _≤_}
 use lib.Dec.{eqb, leb, ltb}
 use lib.ListN.{length}
 use Rattle.runs.specs.Bus.{Bus}
-use Rattle.runs.specs.Slots.{Slots, equal}
-use Rattle.runs.specs.Schedules.{Turn, Schedule, total, unequal}
+use Rattle.runs.specs.Slots.{Slots, equalSlots}
+use Rattle.runs.specs.Schedules.{Turn, Schedule, total, unequalSlots}
 use Rattle.bus.specs.Waits.{Ranges}
 use Rattle.bytes.specs.Bytes.{byteAt, wordAt}
 
@@ -53,7 +53,7 @@ scheduleOk v = turnsOk (v .turns) && (leb (total (v .turns)) 256 && named (v .co
 
 -- the bus that field 1 says: "A field with tag 9 may stand first in place of tag 1"
 unfoldable pub said : List ℕ → Bus
-said s = cond (eqb (byteAt s 0) 9) (unequal (scheduleAt s)) (equal (slotsAt s))
+said s = cond (eqb (byteAt s 0) 9) (unequalSlots (scheduleAt s)) (equalSlots (slotsAt s))
 
 -- ---- the same rules of an accepted image, not as tests
 

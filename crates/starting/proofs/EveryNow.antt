@@ -9,7 +9,7 @@ use native.Mathlib.Omega.{arith}
 use native.Mathlib.Nat.{not-suc-le-zero, mod-lt, mod-add-mod}
 use Prim.Native.Nat.{ℕ, suc, _+_, _%_, _≤_, _<_}
 use Rattle.runs.specs.Figures.{Time}
-use Rattle.runs.specs.Demand3.{Longest}
+use Rattle.runs.specs.Exact.{Longest}
 use Rattle.runs.specs.Stretches.{IsRun, Begins, NextStretch}
 use Rattle.runs.proofs.Cases.{split}
 use Rattle.runs.proofs.SchedulesLaws.{next-at, next-of}

@@ -10,7 +10,7 @@ use native.Mathlib.Decide.{ℕ-discrete}
 use native.Mathlib.Nat.{mod-lt, not-suc-le-zero}
 use Prim.Native.Nat.{ℕ, suc, _+_, _-_, _%_, _≤_, _<_, min, max}
 use Rattle.runs.specs.Figures.{longer}
-use Rattle.runs.specs.Demand3.{Longest, nothing, reached}
+use Rattle.runs.specs.Exact.{Longest, nothing, reached}
 use Rattle.runs.proofs.Cases.{split}
 use Rattle.runs.proofs.TimesExact.{longest-same, times-mean}
 use Rattle.times.specs.Arrays.{noTime, timeOf, tableOf, Fits, LongerOf}

@@ -7,7 +7,7 @@ use mathlib.Core.Bool.{Bool, true}
 use lib.ListN.{getD}
 use Prim.Native.Nat.{ℕ, suc, _+_, _%_, _≤_, _<_}
 use Rattle.runs.specs.Figures.{Time}
-use Rattle.runs.specs.Demand3.{Longest}
+use Rattle.runs.specs.Exact.{Longest}
 use Rattle.runs.specs.Schedules.{ownsNext}
 use Rattle.runs.specs.Stretches.{Begins}
 use Rattle.times.specs.Arrays.{timeOf, tableOf}

@@ -15,7 +15,7 @@ use Rattle.runs.specs.Clock.{offsets}
 use Rattle.runs.specs.Nodes.{may}
 use Rattle.runs.specs.Carried.{moved, blocked}
 use Rattle.runs.specs.Figures.{Time, later, longer}
-use Rattle.runs.specs.Demand3.{Longest}
+use Rattle.runs.specs.Exact.{Longest}
 use Rattle.runs.proofs.Cases.{split}
 use Rattle.runs.proofs.SchedulesLaws.{owning-lawful}
 use Rattle.runs.proofs.StretchesLaws.{wait-to, lands, lands-begin}

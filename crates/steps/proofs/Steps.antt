@@ -12,7 +12,7 @@ use Rattle.runs.specs.Schedules.{owning}
 use Rattle.runs.specs.Stretches.{Begins}
 use Rattle.runs.specs.Nodes.{may, always, Tree}
 use Rattle.runs.specs.Carried.{blocked, carried}
-use Rattle.runs.specs.Demand3.{Longest}
+use Rattle.runs.specs.Exact.{Longest}
 use Rattle.runs.proofs.Joins.{row-same}
 use Rattle.runs.proofs.SchedulesLaws.{next-of, next-at, most-fits, cycles-to}
 use Rattle.runs.proofs.TimesExact.{longest-one, longest-same}

@@ -11,16 +11,16 @@ use lib.Seq.{take-append-seam}
 use borrow.Author.Tests.{le-leb, lt-leb}
 use Rattle.text.specs.declared.Written.{Written}
 use Rattle.text.specs.Text.{figureLines}
-use Rattle.text.specs.Buffer.{put, Wrote, Read, listed, figuresListed}
+use Rattle.text.specs.Buffer.{put, Wrote, Read, intoBuffer, figuresListed}
 
 -- ---- by the tests
 
-pub listed-short : (text out : List ℕ) → length out < 8192 → listed text out ≡ (Written.Short, out)
-unfolding listed
+pub listed-short : (text out : List ℕ) → length out < 8192 → intoBuffer text out ≡ (Written.Short, out)
+unfolding intoBuffer
 listed-short text out h = rw (lt-leb 8192 (length out) h)
 
-pub listed-bytes : {after : List ℕ} {n : ℕ} (text out : List ℕ) → 8192 ≤ length out → Wrote out 0 text after n → listed text out ≡ (Written.Bytes n, after)
-unfolding listed put
+pub listed-bytes : {after : List ℕ} {n : ℕ} (text out : List ℕ) → 8192 ≤ length out → Wrote out 0 text after n → intoBuffer text out ≡ (Written.Bytes n, after)
+unfolding intoBuffer put
 listed-bytes {after} {n} text out h w = rw (le-leb 8192 (length out) h, w .bytes, w .ends, zero-add (length text))
 
 module _ (tight published exits period : ℕ) (table out : List ℕ) where
@@ -33,7 +33,7 @@ module _ (tight published exits period : ℕ) (table out : List ℕ) where
   figures-lacking h g = rw (le-leb period 256 h, lt-leb period (length table) g)
 
   pub figures-listed : period ≤ 256 → period ≤ length table
-      → figuresListed tight published exits period table out ≡ listed (figureLines tight published exits period table) out
+      → figuresListed tight published exits period table out ≡ intoBuffer (figureLines tight published exits period table) out
   unfolding figuresListed
   figures-listed h g = rw (le-leb period 256 h, le-leb period (length table) g)
 
@@ -51,8 +51,8 @@ read false text out after n e =
     let z : _≡_ {A = ℕ} 0 1 = cc in
     absurd (omega arith)
 
-pub listed-read : (text out after : List ℕ) (n : ℕ) (w : Written) → listed text out ≡ (w, after) → w ≡ Written.Bytes n → Read text out after n
-unfolding listed
+pub listed-read : (text out after : List ℕ) (n : ℕ) (w : Written) → intoBuffer text out ≡ (w, after) → w ≡ Written.Bytes n → Read text out after n
+unfolding intoBuffer
 listed-read text out after n w e h = read (leb 8192 (length out)) text out after n (rw h at e)
 
 pub read-within : (text out after : List ℕ) (n : ℕ) → Read text out after n → n ≤ length after
@@ -63,7 +63,7 @@ read-text text out after n r = rw (r .count, r .bytes) (take-append-seam text (d
 
 -- the figures were listed, so the period and the table fit
 figured : (b : Bool) (text out after : List ℕ) (n : ℕ)
-    → _≡_ {A = Written × List ℕ} (cond b (listed text out) (Written.NoTable, out)) (Written.Bytes n, after) → Read text out after n
+    → _≡_ {A = Written × List ℕ} (cond b (intoBuffer text out) (Written.NoTable, out)) (Written.Bytes n, after) → Read text out after n
 figured true text out after n e = listed-read text out after n (Written.Bytes n) e refl
 figured false text out after n e =
     let p : Written.NoTable ≡ Written.Bytes n = ap (λ (x : Written × List ℕ). x .0) e in

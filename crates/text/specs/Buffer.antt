@@ -23,15 +23,15 @@ pub record Read (text out after : List ℕ) (n : ℕ) : Type 0 where
   pub bytes : after ≡ text ++ drop (length text) out
 
 -- the answer and the buffer afterwards: the text from the start, or no change where the buffer has fewer than 8192 places
-unfoldable pub listed : List ℕ → List ℕ → Written × List ℕ
-listed text out = cond (leb 8192 (length out)) (Written.Bytes (length text), text ++ drop (length text) out) (Written.Short, out)
+unfoldable pub intoBuffer : List ℕ → List ℕ → Written × List ℕ
+intoBuffer text out = cond (leb 8192 (length out)) (Written.Bytes (length text), text ++ drop (length text) out) (Written.Short, out)
 
 -- the same of a refusal
 abbrev pub refusedListed : ℕ → ℕ → List ℕ → Written × List ℕ
-refusedListed number place out = listed (refusedLine number place) out
+refusedListed number place out = intoBuffer (refusedLine number place) out
 
 -- the same of the figures, or no change where the period is above 256 or the table lacks a place below it
 unfoldable pub figuresListed : ℕ → ℕ → ℕ → ℕ → List ℕ → List ℕ → Written × List ℕ
-unfolding listed figureLines
+unfolding intoBuffer figureLines
 figuresListed tight published exits period table out =
-    cond (leb period 256 && leb period (length table)) (listed (figureLines tight published exits period table) out) (Written.NoTable, out)
+    cond (leb period 256 && leb period (length table)) (intoBuffer (figureLines tight published exits period table) out) (Written.NoTable, out)

@@ -19,7 +19,7 @@ use Rattle.tight.specs.Steps.{sizeOf, table, Stepped, after, afterAll, a
 use Rattle.iterations.proofs.Exits.{joined-at}
 use Rattle.tight.proofs.Rooms.{room-less, room-after}
 
-module _ (s : List ℕ) (k : Walk) (places : List ℕ) (w : Walkable s k places) (node : ℕ) (low : node ≤ k .task .entry)
+module _ (s : List ℕ) (k : Walk) (places : List ℕ) (w : Walkable s k places) (node : ℕ) (low : node ≤ k .outline .entry)
     (p n : ℕ) (named : Named s p n node) (i : ℕ) (h : i < n) (child : ℕ) (is : child ≡ wordAt s (p + 2 * i)) where
   -- the visits of the children from i on
   abbrev ahead : ℕ → ℕ

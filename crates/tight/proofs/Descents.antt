@@ -28,15 +28,15 @@ module _ (s : List ℕ) (k : Walk) (places : List ℕ) (w : Walkable s k places)
   sized = record {
     fit = w .fit;
     sets-is = w .sound .sets-is;
-    few = rw (w .sound .sets-is) (few-sets (k .task .lines) (w .sound .lines-few));
+    few = rw (w .sound .sets-is) (few-sets (k .outline .lines) (w .sound .lines-few));
   }
 
   pub wide-size : sizeOf k ≤ 1024
-  wide-size = rw (← w .sound .sets-is, period-same s k places w) (omega (arith, w .sound .narrow, mul-comm (k .task .period) (k .task .sets)))
+  wide-size = rw (← w .sound .sets-is, period-same s k places w) (omega (arith, w .sound .narrow, mul-comm (k .outline .period) (k .outline .sets)))
 
-  pub narrow-size : k .task .sets ≤ 1 → sizeOf k ≤ 256
+  pub narrow-size : k .outline .sets ≤ 1 → sizeOf k ≤ 256
   narrow-size h =
-      let m : power (k .task .lines) ≤ 1 = omega (arith, w .sound .sets-is) in
+      let m : power (k .outline .lines) ≤ 1 = omega (arith, w .sound .sets-is) in
       omega (arith, w .fit .most, mul-le-mul-right (k .bus .period) m)
 
 module _ (s : List ℕ) (k : Walk) (places : List ℕ) (node : ℕ) (t : List ℕ) (r : Ready s k places node t) where

@@ -22,16 +22,16 @@ unfolding power
 light x h = omega (arith, few-sets (suc x) (omega arith))
 
 module _ (k : Walk) (t : List ℕ) (h : Steppable k t) where
-  pub sets-fit : Fits (k .task .sets * k .bus .period) t
+  pub sets-fit : Fits (k .outline .sets * k .bus .period) t
   sets-fit = rw (h .sized .sets-is) (h .fits)
 
-  row-fit : (j : ℕ) → j < k .task .sets → FitsFrom (j * k .bus .period) (k .bus .period) t
-  row-fit j l = row-fits (k .bus) (k .task .sets) j t t l sets-fit (λ p m. refl)
+  row-fit : (j : ℕ) → j < k .outline .sets → FitsFrom (j * k .bus .period) (k .bus .period) t
+  row-fit j l = row-fits (k .bus) (k .outline .sets) j t t l sets-fit (λ p m. refl)
 
-  pub once-asks : (line lo hi hit w : ℕ) → OnceReady k line lo hi hit t → w ≡ power line → RowsReady (k .bus) lo hi hit w (k .task .sets) 0 t
+  pub once-asks : (line lo hi hit w : ℕ) → OnceReady k line lo hi hit t → w ≡ power line → RowsReady (k .bus) lo hi hit w (k .outline .sets) 0 t
   once-asks line lo hi hit w r e =
-      let pairs : (j : ℕ) → j < k .task .sets → j / w % 2 ≡ 0 → j + w < k .task .sets =
-      λ j l m. rw (e, h .sized .sets-is) (paired (k .task .lines) line j (r .line-lt) (rw (h .sized .sets-is) at l) (rw e at m)) in
+      let pairs : (j : ℕ) → j < k .outline .sets → j / w % 2 ≡ 0 → j + w < k .outline .sets =
+      λ j l m. rw (e, h .sized .sets-is) (paired (k .outline .lines) line j (r .line-lt) (rw (h .sized .sets-is) at l) (rw e at m)) in
       record {
         access = r .access;
         short = r .short;

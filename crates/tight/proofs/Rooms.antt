@@ -35,8 +35,8 @@ room-fits k m t r o l n =
     omega (arith, r .grows o (getD t o 0) l e)
 
 module _ (s : List ℕ) (k : Walk) (places : List ℕ) (w : Walkable s k places) where
-  turn : Turning (k .bus .period) (withLines (k .bus .period) (k .task .lines))
-  turn = lines-turn (k .bus .period) (w .fit .least) (k .task .lines)
+  turn : Turning (k .bus .period) (withLines (k .bus .period) (k .outline .lines))
+  turn = lines-turn (k .bus .period) (w .fit .least) (k .outline .lines)
 
   pub room-after : (x : Tree) → Valid (busMeant (k .bus) .most) x → (m : ℕ) (T : List Time)
       → Roomy k (65535 * visits x + m) T → Roomy k m (after k x T)
@@ -47,7 +47,7 @@ module _ (s : List ℕ) (k : Walk) (places : List ℕ) (w : Walkable s k places)
         omega (
           arith,
           r .most,
-          times-bounded (busMeant (k .bus)) (walk-lawful s k places w) (walk-small s k places w) (withLines (k .bus .period) (k .task .lines)) turn x v T
+          times-bounded (busMeant (k .bus)) (walk-lawful s k places w) (walk-small s k places w) (withLines (k .bus .period) (k .outline .lines)) turn x v T
               (1152921504606846976 - (65535 * visits x + m)) (λ p c l e. omega (arith, r .grows p c l e)) o c l e,
         );
   }

@@ -24,24 +24,24 @@ use Rattle.iterations.specs.Iterations.{BegunBy, TurnedBy}
 
 -- how many places a task's tables have: a row of a period for each set of lines
 abbrev pub sizeOf : Walk → ℕ
-sizeOf k = power (k .task .lines) * k .bus .period
+sizeOf k = power (k .outline .lines) * k .bus .period
 
 -- an array's table; the table after a tree
 abbrev pub table : Walk → List ℕ → List Time
 table k t = tableOf (sizeOf k) t
 
 abbrev pub after : Walk → Tree → List Time → List Time
-after k x T = times (busMeant (k .bus)) (withLines (k .bus .period) (k .task .lines)) x T
+after k x T = times (busMeant (k .bus)) (withLines (k .bus .period) (k .outline .lines)) x T
 
 abbrev pub Stepped : Walk → Tree → List ℕ → List ℕ → Type 0
 Stepped k x t r = table k r ≡ after k x (table k t)
 
 -- the tables after the trees in order, and after any one of them at a place
 abbrev pub afterAll : Walk → Trees → List Time → List Time
-afterAll k xs T = carriedAll (busMeant (k .bus)) (withLines (k .bus .period) (k .task .lines)) none longer later xs T
+afterAll k xs T = carriedAll (busMeant (k .bus)) (withLines (k .bus .period) (k .outline .lines)) none longer later xs T
 
 abbrev pub afterAny : Walk → Trees → List Time → ℕ → Time
-afterAny k xs T o = carriedAny (busMeant (k .bus)) (withLines (k .bus .period) (k .task .lines)) none longer later xs T o
+afterAny k xs T o = carriedAny (busMeant (k .bus)) (withLines (k .bus .period) (k .outline .lines)) none longer later xs T o
 
 -- every time of the table may grow by m and stays at most 2^60
 pub record Roomy (k : Walk) (m : ℕ) (T : List Time) : Type 0 where
@@ -50,13 +50,13 @@ pub record Roomy (k : Walk) (m : ℕ) (T : List Time) : Type 0 where
 
 -- an array as long as t whose table is t's after the tree
 abbrev pub Walked : Walk → Tree → List ℕ → List ℕ → Type 0
-Walked k x t r = SteppedAll (k .bus) (k .task .lines) x t r
+Walked k x t r = SteppedAll (k .bus) (k .outline .lines) x t r
 
 -- the task's numbers of lines and sets fit each other
 pub record Sized (k : Walk) : Type 0 where
   pub fit : Fit (k .bus)
-  pub sets-is : k .task .sets ≡ power (k .task .lines)
-  pub few : k .task .sets ≤ 16
+  pub sets-is : k .outline .sets ≡ power (k .outline .lines)
+  pub few : k .outline .sets ≤ 16
 
 -- an array that a block's step may be taken on
 pub record Steppable (k : Walk) (t : List ℕ) : Type 0 where
@@ -74,21 +74,21 @@ BusReady k lo hi t = Numbers (k .bus) Always lo hi × Steppable k t
 pub record OnceReady (k : Walk) (line lo hi hit : ℕ) (t : List ℕ) : Type 0 where
   pub access : Numbers (k .bus) Always lo hi
   pub short : hit ≤ 65535
-  pub line-lt : line < k .task .lines
-  pub lines-few : k .task .lines ≤ 4
+  pub line-lt : line < k .outline .lines
+  pub lines-few : k .outline .lines ≤ 4
   pub held : Steppable k t
 
 -- the walk of a node from an array
 pub record Ready (s : List ℕ) (k : Walk) (places : List ℕ) (node : ℕ) (t : List ℕ) : Type 0 where
   pub walkable : Walkable s k places
-  pub low : node ≤ k .task .entry
+  pub low : node ≤ k .outline .entry
   pub size : sizeOf k ≤ length t
   pub room : Roomy k (65535 * visits (treeAt s node)) (table k t)
 
 -- the walk of a node's children
 pub record ReadyAll (s : List ℕ) (k : Walk) (places : List ℕ) (node place count : ℕ) (t : List ℕ) : Type 0 where
   pub walkable : Walkable s k places
-  pub low : node ≤ k .task .entry
+  pub low : node ≤ k .outline .entry
   pub named : Named s place count node
   pub size : sizeOf k ≤ length t
   pub room : Roomy k (65535 * visitsAll (childTrees s place count)) (table k t)
@@ -96,7 +96,7 @@ pub record ReadyAll (s : List ℕ) (k : Walk) (places : List ℕ) (node place co
 -- the walk of a loop
 pub record ReadyRepeat (s : List ℕ) (k : Walk) (places : List ℕ) (node : ℕ) (l : Loop) (t : List ℕ) : Type 0 where
   pub walkable : Walkable s k places
-  pub low : node ≤ k .task .entry
+  pub low : node ≤ k .outline .entry
   pub below : l .body < node
   pub few : l .greatest ≤ 10000
   pub size : sizeOf k ≤ length t
@@ -122,7 +122,7 @@ WatchesAt k x cur old w = Watches (after k x) shifted (table k cur) (table k old
 -- `left` iterations of a loop's body are to come
 pub record ReadyLoop (s : List ℕ) (k : Walk) (places : List ℕ) (body left : ℕ) (w : Watch) (cur out old : List ℕ) : Type 0 where
   pub walkable : Walkable s k places
-  pub low : body ≤ k .task .entry
+  pub low : body ≤ k .outline .entry
   pub few : w .done + left ≤ 10000
   pub size : sizeOf k ≤ length cur
   pub size-out : sizeOf k ≤ length out

@@ -32,7 +32,7 @@ fn size(k: Walk) -> usize
     requires { ⌜ Sized k ⌝ }
     ensures { λ r. ⌜ r ≡ sizeOf k ⌝ }
 {
-    k.task.sets * bus::period(k.bus)
+    k.outline.sets * bus::period(k.bus)
 }
 
 // The step of a plain block.
@@ -40,7 +40,7 @@ fn plain_block(k: Walk, p: Plain, t: &mut [u64])
     requires { ⌜ PlainReady k (p .lowest) (p .highest) (now t) ⌝ }
     ensures { λ _. ⌜ Walked k (Tree.plain (p .lowest) (p .highest)) (now (t .entry)) (now (t .exit)) ⌝ }
 {
-    lined::each_row(k.bus, Step::Plain, p.lowest, p.highest, k.task.sets, t);
+    lined::each_row(k.bus, Step::Plain, p.lowest, p.highest, k.outline.sets, t);
 }
 
 // The step of a bus block, by its kind.
@@ -50,8 +50,15 @@ fn bus_block(k: Walk, x: BusBlock, t: &mut [u64])
 {
     let kind = x.kind;
     match kind {
-        Kind::May => lined::each_row(k.bus, Step::May, x.lowest, x.highest, k.task.sets, t),
-        Kind::Always => lined::each_row(k.bus, Step::Always, x.lowest, x.highest, k.task.sets, t),
+        Kind::May => lined::each_row(k.bus, Step::May, x.lowest, x.highest, k.outline.sets, t),
+        Kind::Always => lined::each_row(
+            k.bus,
+            Step::Always,
+            x.lowest,
+            x.highest,
+            k.outline.sets,
+            t,
+        ),
     }
 }
 
@@ -61,7 +68,7 @@ fn once_block(k: Walk, x: Once, t: &mut [u64])
     ensures { λ _. ⌜ Walked k (Tree.once (x .line) (x .lowest) (x .highest) (x .hit)) (now (t .entry)) (now (t .exit)) ⌝ }
 {
     let weight = image::fetched::power(x.line);
-    lined::once(k.bus, x.lowest, x.highest, x.hit, weight, k.task.sets, t);
+    lined::once(k.bus, x.lowest, x.highest, x.hit, weight, k.outline.sets, t);
 }
 
 // The times after a node.
@@ -101,7 +108,7 @@ fn branch(image: &[u8], places: &[usize; 256], k: Walk, node: usize, c: Children
     requires { ⌜ ReadyAll (now image) k (now places) node (c .place) (c .count) (now t) ⌝ }
     ensures { λ _. ⌜ (length (now (t .exit)) ≡ length (now (t .entry))) × Branched k (childTrees (now (image .entry)) (c .place) (c .count)) (now (t .entry)) (now (t .exit)) ⌝ }
 {
-    if 1 < k.task.sets {
+    if 1 < k.outline.sets {
         wide_branch(image, places, k, node, c, t);
         return;
     }
@@ -160,7 +167,7 @@ fn repeat(image: &[u8], places: &[usize; 256], k: Walk, node: usize, l: Loop, t:
     requires { ⌜ ReadyRepeat (now image) k (now places) node l (now t) ⌝ }
     ensures { λ _. ⌜ Walked k (Tree.loop (l .least) (l .greatest) (treeAt (now (image .entry)) (l .body))) (now (t .entry)) (now (t .exit)) ⌝ }
 {
-    if 1 < k.task.sets {
+    if 1 < k.outline.sets {
         wide_repeat(image, places, k, node, l, t);
         return;
     }

@@ -9,7 +9,7 @@ use borrow.Author.Tests.{le-leb, lt-leb}
 use native.Mathlib.Omega.{arith}
 use Prim.Native.Nat.{ℕ, _+_, _-_, _%_, _≤_, _<_, min, max}
 use Rattle.runs.specs.Figures.{Time, longer}
-use Rattle.runs.specs.Demand3.{Longest, nothing, reached}
+use Rattle.runs.specs.Exact.{Longest, nothing, reached}
 use Rattle.runs.specs.Schedules.{ownsNext}
 use Rattle.runs.specs.Stretches.{IsRun, Begins, Open, NextStretch}
 use Rattle.runs.proofs.Cases.{split}

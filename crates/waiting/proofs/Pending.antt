@@ -9,7 +9,7 @@ use native.Mathlib.Omega.{arith}
 use native.Mathlib.Decide.{ℕ-discrete}
 use Prim.Native.Nat.{ℕ, _+_, _-_, _%_, _≤_, _<_, max}
 use Rattle.runs.specs.Figures.{Time, later, longer}
-use Rattle.runs.specs.Demand3.{Longest, nothing, reached}
+use Rattle.runs.specs.Exact.{Longest, nothing, reached}
 use Rattle.runs.proofs.Cases.{split}
 use Rattle.runs.proofs.Meanings.{is-below}
 use Rattle.runs.proofs.TimesExact.{longest-same, longest-one, times-mean}

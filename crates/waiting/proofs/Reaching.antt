@@ -6,7 +6,7 @@ use mathlib.Core.List.{List}
 use lib.ListN.{getD}
 use native.Mathlib.Omega.{arith}
 use Prim.Native.Nat.{ℕ, _+_, _-_, _≤_, _<_}
-use Rattle.runs.specs.Demand3.{nothing}
+use Rattle.runs.specs.Exact.{nothing}
 use Rattle.runs.proofs.Cases.{split}
 use Rattle.runs.proofs.TimesExact.{longest-same, times-mean}
 use Rattle.times.specs.Arrays.{noTime, timeOf, tableOf, LongerOf, LaterOf}

@@ -9,7 +9,7 @@ use lib.ListN.{getD}
 use Prim.Native.Nat.{ℕ, zero, suc, _+_, _-_, _%_, _≤_, _<_}
 use Rattle.runs.specs.Carried.{joinBelow}
 use Rattle.runs.specs.Figures.{Time, longer}
-use Rattle.runs.specs.Demand3.{Longest}
+use Rattle.runs.specs.Exact.{Longest}
 use Rattle.runs.specs.Schedules.{ownsNext}
 use Rattle.runs.specs.Stretches.{Begins, Open}
 use Rattle.times.specs.Arrays.{timeOf, tableOf}

@@ -7,7 +7,7 @@ use lib.ListN.{getD}
 use native.Mathlib.Omega.{arith}
 use Prim.Native.Nat.{ℕ, suc, _≤_, _<_}
 use Rattle.runs.specs.Figures.{Time, longer}
-use Rattle.runs.specs.Demand3.{Longest}
+use Rattle.runs.specs.Exact.{Longest}
 use Rattle.runs.proofs.Cases.{split}
 use Rattle.runs.proofs.Joins.{row-same}
 use Rattle.runs.proofs.Meanings.{row-at}

@@ -10,7 +10,7 @@ use native.Mathlib.Omega.{arith}
 use native.Mathlib.Decide.{ℕ-discrete}
 use native.Mathlib.Nat.{mod-lt, mod-eq-of-lt, mod-add-mod}
 use Prim.Native.Nat.{ℕ, suc, _+_, _-_, _%_, _≤_, _<_}
-use Rattle.runs.specs.Demand3.{Longest, nothing, reached}
+use Rattle.runs.specs.Exact.{Longest, nothing, reached}
 use Rattle.runs.proofs.Joins.{row-same}
 use Rattle.runs.proofs.TimesExact.{longest-one, longest-same, times-mean}
 use Rattle.times.specs.Arrays.{noTime, timeOf, tableOf, Fits, LaterOf}

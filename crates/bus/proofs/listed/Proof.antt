@@ -4,7 +4,7 @@ use mathlib.Core.Bool.{true}
 use Prim.Native.Nat.{ℕ, _+_, _-_, _<_}
 use native.Mathlib.Omega.{arith}
 use Rattle.offsets.specs.Sets.{value, has, members}
-use Rattle.bus.specs.Listed.{Ordered}
+use Rattle.bus.specs.Stretches.{Ordered}
 use Rattle.bus.proofs.Listing.{members-none, members-room, members-next, lowest-in, lowest-on, ahead-less, ordered-none, ordered-more, ordered-end}
 use borrow.Author.Needs.{needs}
 use Rattle.bus.proofs.listed.Statement.{statement}

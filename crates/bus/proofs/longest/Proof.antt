@@ -3,7 +3,7 @@ use mathlib.Core.Path.{_≡_, subst}
 use mathlib.Core.Logic.{⊎-elim}
 use Prim.Native.Nat.{ℕ, _-_, _≤_}
 use native.Mathlib.Omega.{arith}
-use Rattle.bus.specs.Listed.{LongestOf}
+use Rattle.bus.specs.Stretches.{LongestOf}
 use Rattle.bus.proofs.Listing.{longest-one, longest-more, longest-kept}
 use Rattle.bus.proofs.longest.Statement.{statement}
 use Rattle.bus.proofs.longest.Tie as tie

@@ -6,7 +6,7 @@ use native.Mathlib.Omega.{arith}
 use Rattle.runs.specs.Stretches.{NextStretch}
 use Rattle.runs.proofs.Forward as forward
 use Rattle.bus.specs.Owning.{owns}
-use Rattle.bus.specs.Listed.{after, beginOf, lengthOf}
+use Rattle.bus.specs.Stretches.{after, beginOf, lengthOf}
 use Rattle.bus.proofs.Listing.{after-in, after-next, after-last}
 use Rattle.bus.proofs.Nexts.{gap-fits, gap-on, gap-round}
 use borrow.Author.Needs.{needs}

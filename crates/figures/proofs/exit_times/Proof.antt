@@ -31,7 +31,7 @@ walk-requires c κs =
     let a = c .before .before .before .before .before .before .args in
     let p = c .before .before .before .before .before .before .pre in
     let t = c .before .before .before .start-times in
-    let h : a .w .task .sets ≤ 1 = omega (arith, c .before .if1 .left) in
+    let h : a .w .outline .sets ≤ 1 = omega (arith, c .before .if1 .left) in
     start-ready (a .image .now) (a .w) (a .places .now) p (t .result) (omega (arith, t .ensures .0, narrow-size (a .image .now) (a .w) (a .places .now) p h)) (started-row (a .image .now) (a .w) (a .places .now) p (t .result) h (t .ensures .1))
 
 returns-2 : tie.Need-returns-2
@@ -39,7 +39,7 @@ returns-2 c =
     let a = c .before .before .before .before .before .before .before .before .args in
     let p = c .before .before .before .before .before .before .before .before .pre in
     let t = c .before .before .before .before .before .start-times in
-    let h : a .w .task .sets ≤ 1 = omega (arith, c .before .before .before .if1 .left) in
+    let h : a .w .outline .sets ≤ 1 = omega (arith, c .before .before .before .if1 .left) in
     times-ended (a .image .now) (a .w) (a .places .now) p (t .result) _ _ (started-row (a .image .now) (a .w) (a .places .now) p (t .result) h (t .ensures .1)) (c .before .walk .ensures) (row-joined (a .image .now) (a .w) (a .places .now) p _ h)
 
 pub exit-times-spec : {M : Type 1} → statement M

@@ -6,7 +6,7 @@ use lib.Pow.{pow-pos}
 use lib.Bits.{bitOr}
 use native.Mathlib.Omega.{arith}
 use Prim.Native.Nat.{ℕ, _+_, _-_, _^_, _≤_, _<_}
-use Rattle.runs.specs.Runs.{listed}
+use Rattle.runs.specs.Runs.{isStart}
 use Rattle.offsets.specs.Sets.{value, has}
 use Rattle.offsets.proofs.Members.{has-none}
 use Rattle.image.specs.Conditions.{lengthAt}
@@ -19,13 +19,13 @@ use Rattle.figures.proofs.start_set.Statement.{statement}
 use Rattle.figures.proofs.start_set.Tie as tie
 
 -- one more start is joined
-joined : (s : List ℕ) (p i at m o : ℕ) → at ≡ byteAt s (p + i) → has m o ≡ listed (bytes s p i) o
-    → has (bitOr m (2 ^ at)) o ≡ listed (bytes s p (i + 1)) o
+joined : (s : List ℕ) (p i at m o : ℕ) → at ≡ byteAt s (p + i) → has m o ≡ isStart (bytes s p i) o
+    → has (bitOr m (2 ^ at)) o ≡ isStart (bytes s p (i + 1)) o
 joined s p i at m o e h = rw (has-more m at o, listed-more s p i o, e, h)
 
 abbrev Inv-loop : tie.InvT-loop
 Inv-loop image place period n out₀ i₀ out i =
-    (i ≤ n) × ((o : ℕ) → has (value out) o ≡ listed (bytes image place i) o)
+    (i ≤ n) × ((o : ℕ) → has (value out) o ≡ isStart (bytes image place i) o)
     × ((P : ℕ) → ((j : ℕ) → j < n → byteAt image (place + j) < P) → value out < 2 ^ P)
 
 abbrev μ-loop : tie.MeasureT-loop
@@ -35,7 +35,7 @@ empty-requires : tie.Need-empty-requires Inv-loop μ-loop
 empty-requires c κs = search needs
 
 loop-holds : tie.Need-loop-holds Inv-loop μ-loop
-unfolding bytes listed
+unfolding bytes isStart
 loop-holds c =
     (omega arith, (λ o. rw (c .empty .ensures) (has-none o)), (λ P h. rw (c .empty .ensures) (pow-pos P)))
 
@@ -77,7 +77,7 @@ returns c =
     let s = st .args .image .now in
     let e : l .i ≡ lengthAt s 1 = omega (arith, st .pre .count) in
     record {
-      bits = bits-row (st .args .period) (l .out) (listed (startsOf s)) (λ o h. rw (e, st .pre .stands) at (l .inv .1 o));
+      bits = bits-row (st .args .period) (l .out) (isStart (startsOf s)) (λ o h. rw (e, st .pre .stands) at (l .inv .1 o));
       within = l .inv .2 (st .args .period) (st .pre .below);
     }
 

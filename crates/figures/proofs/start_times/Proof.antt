@@ -9,7 +9,7 @@ use lib.Seq.{getD-set-same, getD-set-other}
 use borrow.Author.Tests.{eqb-true, eqb-false}
 use native.Mathlib.Omega.{arith}
 use Prim.Native.Nat.{ℕ, _+_, _-_, _≤_, _<_}
-use Rattle.runs.specs.Runs.{listed}
+use Rattle.runs.specs.Runs.{isStart}
 use Rattle.runs.specs.Figures.{noTime}
 use Rattle.runs.proofs.Cases.{either}
 use Rattle.image.specs.Conditions.{lengthAt}
@@ -19,8 +19,8 @@ use Rattle.figures.proofs.start_times.Statement.{statement}
 use Rattle.figures.proofs.start_times.Tie as tie
 
 -- one more start is written
-written : (s out : List ℕ) (p i at o : ℕ) → at ≡ byteAt s (p + i) → at < length out → getD out o 0 ≡ cond (listed (bytes s p i) o) 0 noTime
-    → getD (set out at 0) o 0 ≡ cond (listed (bytes s p (i + 1)) o) 0 noTime
+written : (s out : List ℕ) (p i at o : ℕ) → at ≡ byteAt s (p + i) → at < length out → getD out o 0 ≡ cond (isStart (bytes s p i) o) 0 noTime
+    → getD (set out at 0) o 0 ≡ cond (isStart (bytes s p (i + 1)) o) 0 noTime
 written s out p i at o e l h =
     either (eqb at o)
     (λ q. let same : o ≡ at = sym (eqb-true at o q) in rw (listed-more s p i o, ← e, q, or-true, same) (getD-set-same out at 0 0 l))
@@ -28,13 +28,13 @@ written s out p i at o e l h =
 
 abbrev Inv-loop : tie.InvT-loop
 Inv-loop image place period n out₀ i₀ out i =
-    (i ≤ n) × (length out ≡ 256) × ((o : ℕ) → o < 256 → getD out o 0 ≡ cond (listed (bytes image place i) o) 0 noTime)
+    (i ≤ n) × (length out ≡ 256) × ((o : ℕ) → o < 256 → getD out o 0 ≡ cond (isStart (bytes image place i) o) 0 noTime)
 
 abbrev μ-loop : tie.MeasureT-loop
 μ-loop image place period n out₀ i₀ out i = n - i
 
 loop-holds : tie.Need-loop-holds Inv-loop μ-loop
-unfolding bytes listed
+unfolding bytes isStart
 loop-holds c = (omega arith, refl, λ o h. getD-replicate 256 o noTime 0 h)
 
 add-byte : tie.Need-add-byte Inv-loop μ-loop

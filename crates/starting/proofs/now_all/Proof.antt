@@ -5,7 +5,7 @@ use lib.ListN.{length}
 use Rattle.runs.specs.Stretches.{IsRun, Begins}
 use Rattle.runs.proofs.Forward.{from-none, next-begins, next-place, round, some-len}
 use Rattle.runs.proofs.Nexts.{begun}
-use Rattle.bus.specs.Listed.{Nth}
+use Rattle.bus.specs.Stretches.{Nth}
 use Rattle.bus.specs.Owning.{owns}
 use Rattle.starting.proofs.EveryNow.{StartedUp, up-none, up-more, up-all}
 use native.Mathlib.Omega.{arith}

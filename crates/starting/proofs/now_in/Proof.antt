@@ -4,7 +4,7 @@ use mathlib.Core.List.{List}
 use Prim.Native.Nat.{ℕ, suc, _+_, _-_, _%_, _≤_, _<_}
 use native.Mathlib.Nat.{mod-lt, mod-add-mod}
 use lib.ListN.{length, length-set}
-use Rattle.runs.specs.Demand3.{Longest}
+use Rattle.runs.specs.Exact.{Longest}
 use Rattle.times.specs.Arrays.{timeOf, tableOf}
 use Rattle.windows.specs.Windows.{top, Windowed, Turns, timeAt}
 use Rattle.windows.proofs.Tops.{top-zero}

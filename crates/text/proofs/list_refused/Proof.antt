@@ -1,4 +1,4 @@
--- Each way out is a case of `listed`: too short, or the line put from place 0, which has at most 50 bytes.
+-- Each way out is a case of `intoBuffer`: too short, or the line put from place 0, which has at most 50 bytes.
 use native.Mathlib.Omega.{arith}
 use borrow.Author.Needs.{needs}
 use Rattle.text.specs.Text.{refusedLine}

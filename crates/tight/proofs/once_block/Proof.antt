@@ -15,12 +15,12 @@ once-requires c κs =
 same-length : tie.Need-same-length
 same-length c =
     let a = c .before .before .before .before .before .before .args in
-    c .before .before .once .ensures (a .k .task .lines) (a .x .line) (c .before .before .before .before .before .before .pre .held .sized .sets-is) (c .before .before .before .before .power .ensures) (c .before .before .before .before .before .before .pre .line-lt) .size
+    c .before .before .once .ensures (a .k .outline .lines) (a .x .line) (c .before .before .before .before .before .before .pre .held .sized .sets-is) (c .before .before .before .before .power .ensures) (c .before .before .before .before .before .before .pre .line-lt) .size
 
 returns : tie.Need-returns
 returns c =
     let a = c .before .before .before .before .before .before .args in
-    c .before .before .once .ensures (a .k .task .lines) (a .x .line) (c .before .before .before .before .before .before .pre .held .sized .sets-is) (c .before .before .before .before .power .ensures) (c .before .before .before .before .before .before .pre .line-lt)
+    c .before .before .once .ensures (a .k .outline .lines) (a .x .line) (c .before .before .before .before .before .before .pre .held .sized .sets-is) (c .before .before .before .before .power .ensures) (c .before .before .before .before .before .before .pre .line-lt)
 
 pub once-block-spec : {M : Type 1} → statement M
 once-block-spec = tie.close (tie.spec power-requires once-requires same-length returns)

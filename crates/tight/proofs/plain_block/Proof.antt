@@ -9,10 +9,10 @@ each-row-requires c κs =
     (c .before .before .pre .0, h .sized .few, rw (h .sized .sets-is) (h .size), sets-fit (c .before .before .args .k) (c .before .before .args .t .now) h)
 
 same-length : tie.Need-same-length
-same-length c = c .before .before .each-row .ensures (c .before .before .before .before .before .args .k .task .lines) (c .before .before .before .before .before .pre .1 .sized .sets-is) .size
+same-length c = c .before .before .each-row .ensures (c .before .before .before .before .before .args .k .outline .lines) (c .before .before .before .before .before .pre .1 .sized .sets-is) .size
 
 returns : tie.Need-returns
-returns c = c .before .before .each-row .ensures (c .before .before .before .before .before .args .k .task .lines) (c .before .before .before .before .before .pre .1 .sized .sets-is)
+returns c = c .before .before .each-row .ensures (c .before .before .before .before .before .args .k .outline .lines) (c .before .before .before .before .before .pre .1 .sized .sets-is)
 
 pub plain-block-spec : {M : Type 1} → statement M
 plain-block-spec = tie.close (tie.spec each-row-requires same-length returns)

@@ -3,12 +3,12 @@
 use mathlib.Core.Path.{_≡_, refl, sym, _∙_, ap}
 use Prim.Native.Nat.{ℕ, _+_, _-_, _%_, _≤_}
 use lib.ListN.{length}
-use Rattle.runs.specs.Demand3.{Longest}
+use Rattle.runs.specs.Exact.{Longest}
 use Rattle.runs.specs.Schedules.{ownsNext}
 use Rattle.runs.specs.Stretches.{IsRun, Begins}
 use Rattle.runs.proofs.Nexts.{run-holds}
 use Rattle.runs.proofs.Forward as forward
-use Rattle.bus.specs.Listed.{Nth}
+use Rattle.bus.specs.Stretches.{Nth}
 use Rattle.bus.specs.Owning.{owns}
 use Rattle.times.specs.Arrays.{tableOf}
 use Rattle.waiting.specs.Waiting.{Later, Pends, among}

@@ -31,7 +31,7 @@ abbrev pub Nth : Stretches → ℕ → ℕ → ℕ → Type 0
 Nth v i x len = (i < v .count) × (beginOf v i ≡ x) × (lengthOf v i ≡ len)
 
 -- v is the list of the stretches of the owned offsets: from each it leads on to the next
-pub record Listed (P : ℕ) (own : ℕ → Bool) (v : Stretches) : Type 0 where
+pub record InTurn (P : ℕ) (own : ℕ → Bool) (v : Stretches) : Type 0 where
   pub begins-long : length (v .begins) ≡ 16
   pub lengths-long : length (v .lengths) ≡ 16
   pub few : v .count ≤ 16
