@@ -1,14 +1,14 @@
 -- A plain block, by its field's tag and by what the node says.
 use borrow.Author.Tests.{lt-ltb, ltb-true, eq-eqb, eqb-true}
 use mathlib.Core.Path.{_≡_, refl}
-use mathlib.Core.Bool.{Bool, true, false}
+use mathlib.Core.Bool.{Bool, true, false, cond}
 use mathlib.Core.List.{List}
 use lib.Dec.{eqb, ltb}
 use native.Mathlib.Omega.{arith}
 use Prim.Native.Nat.{ℕ, _+_}
 use Rattle.runs.specs.Nodes.{Node as RunNode}
 use Rattle.bytes.specs.Bytes.{byteAt, wordAt}
-use Rattle.image.specs.Nodes.{pickNode, nodeFrom, meant, nodeAt}
+use Rattle.image.specs.Nodes.{nodeFrom, meant, nodeAt}
 use Rattle.image.specs.declared.nodes.Node.the-variants.{Plain, Bus, Once, Sequence, Branch, Loop}
 use Rattle.image.specs.declared.nodes.Plain.{Plain as PlainNumbers}
 use Rattle.image.specs.declared.nodes.BusBlock.{BusBlock}
@@ -22,7 +22,7 @@ use Rattle.edits.specs.Promise.{PlainBlock}
 
 -- a node that is plain has tag 3
 plain-tag : (s : List ℕ) (t3 t4 t5 t6 t10 : Bool) (p : PlainNumbers) (b : BusBlock) (c d : Children) (x : OnceNumbers) (l : LoopNumbers) (lo hi : ℕ)
-    → meant s (pickNode t3 (Plain p) (pickNode t4 (Bus b) (pickNode t5 (Sequence c) (pickNode t6 (Branch d) (pickNode t10 (Once x) (Loop l)))))) ≡ RunNode.plain lo hi
+    → meant s (cond t3 (Plain p) (cond t4 (Bus b) (cond t5 (Sequence c) (cond t6 (Branch d) (cond t10 (Once x) (Loop l)))))) ≡ RunNode.plain lo hi
     → t3 ≡ true
 unfolding meant
 plain-tag s true t4 t5 t6 t10 p b c d x l lo hi e = refl

@@ -11,7 +11,7 @@ use Rattle.runs.specs.Carried.{carried}
 use Rattle.runs.specs.Figures.{noTime, startTimes, startSet, longer, later, longestOf, atOffsets, cost, entryOf, held, sum}
 use Rattle.bytes.specs.Bytes.{wordAt, words, bytes}
 use Rattle.schedule.specs.Said.{busOk, said}
-use Rattle.image.specs.Fields.{tagOk, lengthOk, startsOk, plainOk, accessOk, blockOk, loopOk, valueOk, below, childrenOk, fieldOf}
+use Rattle.image.specs.Fields.{tagOk, nodeLengthOk, lengthOk, startsOk, plainOk, accessOk, blockOk, loopOk, nodeValueOk, valueOk, below, childrenOk, fieldOf}
 use Rattle.image.specs.Nodes.{fieldAt, nodeFrom, meant, nodeAt}
 use Rattle.image.specs.Judged.{scanFrom, scan, wholeOf, judged}
 use Rattle.figures.specs.Answers.{given, refused}
@@ -45,7 +45,7 @@ record Worked : Type 0 where
   kept : previewTable (arms 3 7) 1 8 7 (replicate 9 0) ≡ replicate 9 0
 
 worked : Worked
-unfolding wordAt words bytes tagOk lengthOk busOk said startsOk plainOk accessOk blockOk loopOk valueOk below childrenOk fieldOf fieldAt nodeFrom meant nodeAt trees treeBy treeTo tree depth visits power linesTo scanFrom scan wholeOf judged equalSlots equation7 withLines carried startTimes startSet longer later longestOf atOffsets cost entryOf held sum withDurations found
+unfolding wordAt words bytes tagOk nodeLengthOk lengthOk busOk said startsOk plainOk accessOk blockOk loopOk nodeValueOk valueOk below childrenOk fieldOf fieldAt nodeFrom meant nodeAt trees treeBy treeTo tree depth visits power linesTo scanFrom scan wholeOf judged equalSlots equation7 withLines carried startTimes startSet longer later longestOf atOffsets cost entryOf held sum withDurations found
 worked = record {
   is-done = refl;
   first-arm = refl;
@@ -69,5 +69,5 @@ worked = record {
 
 -- so there are possible edits
 possible : Editable (arms 3 7) 1 8 8
-unfolding wordAt words tagOk lengthOk busOk said startsOk plainOk accessOk blockOk loopOk valueOk below childrenOk fieldOf fieldAt nodeFrom meant nodeAt trees treeBy treeTo tree depth visits power linesTo scanFrom scan wholeOf judged equalSlots found
+unfolding wordAt words tagOk nodeLengthOk lengthOk busOk said startsOk plainOk accessOk blockOk loopOk nodeValueOk valueOk below childrenOk fieldOf fieldAt nodeFrom meant nodeAt trees treeBy treeTo tree depth visits power linesTo scanFrom scan wholeOf judged equalSlots found
 possible = when-found (arms 3 7) 1 8 8 17 refl

@@ -15,7 +15,7 @@ use Rattle.runs.specs.Carried.{row}
 use Rattle.runs.proofs.Cases.{split}
 use Rattle.runs.proofs.Meanings.{row-at}
 use Rattle.schedule.proofs.Numbers.{both}
-use Rattle.figures.proofs.Whole.{row-length}
+use Rattle.runs.proofs.Joins.{row-length}
 use Rattle.graph.specs.Graph.{Entry, Permitted, finish}
 use Rattle.graph.specs.Table.{graphOf, sizeOf, sizeOk, allBelow, permitted, firstNot, refusedAt, finished, refused, finishesOf, noFinishes, answerBy, answer}
 use Rattle.graph.specs.Conditions.{TableOf, AcceptedTable}

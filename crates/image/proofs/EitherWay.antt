@@ -18,6 +18,7 @@ use Rattle.schedule.proofs.Writings.{pairs-long, written-length, written-read, 
 use Rattle.image.specs.Fields.{tagOk, lengthOk, valueOk, childrenOk}
 use Rattle.image.specs.Nodes.{fieldAt}
 use Rattle.image.specs.Conditions.{GoodField}
+use Rattle.image.proofs.Rules.{good}
 use Rattle.image.proofs.SameRest.{Instead}
 
 module _ (v : Slots) (h : Ranges v) (rest : List ℕ) where
@@ -38,7 +39,7 @@ module _ (v : Slots) (h : Ranges v) (rest : List ℕ) where
 
   one-good : GoodField (one ++ rest) 0
   unfolding fieldAt wordAt tagOk lengthOk valueOk childrenOk
-  one-good = record {
+  one-good = good (one ++ rest) 0 (record {
     head = omega arith;
     tag = refl;
     room = omega arith;
@@ -46,13 +47,14 @@ module _ (v : Slots) (h : Ranges v) (rest : List ℕ) where
     body = omega arith;
     value = kept-ranges v h;
     children = refl;
-  }
+  })
 
   nine-good : GoodField (nine ++ rest) 0
   unfolding fieldAt tagOk lengthOk valueOk childrenOk
   nine-good =
       let odd : (1 + 2 * v .cores) % 2 ≡ 1 = omega arith in
-      record {
+      good (nine ++ rest) 0
+      (record {
         head = omega arith;
         tag = refl;
         room = omega arith;
@@ -60,7 +62,7 @@ module _ (v : Slots) (h : Ranges v) (rest : List ℕ) where
         body = omega (arith, body, long, length-append nine rest);
         value = rw (written-read (evenly v h) (omega (arith, few, h .cores-most)) rest) (even-ok v h);
         children = refl;
-      }
+      })
 
   one-ends : fieldAt (one ++ rest) 1 ≡ length one
   unfolding fieldAt wordAt

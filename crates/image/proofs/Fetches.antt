@@ -20,7 +20,7 @@ pub line-few : (s : List ℕ) (own : ℕ) (x : Node) → Fine s own x → nodeLi
 unfolding Fine meant
 line-few s own (Plain p) f = omega arith
 line-few s own (Block b) f = omega arith
-line-few s own (Once x) f = omega (arith, f .0)
+line-few s own (Once x) f = omega (arith, f .line-most)
 line-few s own (Sequence c) f = omega arith
 line-few s own (Branch c) f = omega arith
 line-few s own (Loop l) f = omega arith

@@ -17,7 +17,7 @@ use Rattle.image.specs.Inner.{Holds}
 use Rattle.image.specs.declared.nodes.Node.{Node}
 use Rattle.image.specs.declared.nodes.Node.the-variants.{Plain, Bus as Block, Once, Sequence, Branch, Loop}
 use Rattle.image.proofs.Lists.{words-step, words-none, all-words}
-use Rattle.image.proofs.Kept.{node-fine}
+use Rattle.image.proofs.Kept.{good-head, good-room, node-fine}
 
 names : (s : List ℕ) (own : ℕ) (x : Node) → Fine s own x → Named (λ i. i < own) (meant s x)
 unfolding meant Fine
@@ -26,7 +26,7 @@ names s own (Block b) f = tt
 names s own (Once x) f = tt
 names s own (Sequence c) f = all-words (λ i. i < own) s (c .place) (c .count) (f .3)
 names s own (Branch c) f = all-words (λ i. i < own) s (c .place) (c .count) (f .3)
-names s own (Loop l) f = f .2
+names s own (Loop l) f = f .1
 
 -- "a child's number is smaller than that of the node naming it", for the nodes 0 to n
 pub falls : (s : List ℕ) (n : ℕ) → Passed s (n + 3) → (k : ℕ) → k < suc n → Named (λ i. i < k) (nodeAt s k)
@@ -35,10 +35,10 @@ falls s n p k l = names s k (nodeOf s (fieldAt s (k + 2))) (node-fine s k (p (k 
 
 module _ (s : List ℕ) (n at : ℕ) (h : Standing s n at) where
   pub inside-here : at ≤ length s
-  inside-here = omega (arith, h .place, h .passed (n + 2) (omega arith) .head)
+  inside-here = omega (arith, h .place, good-head s (n + 2) (h .passed (n + 2) (omega arith)))
 
   pub few-here : n < 256
-  few-here = omega (arith, h .passed (n + 2) (omega arith) .room)
+  few-here = omega (arith, good-room s (n + 2) (h .passed (n + 2) (omega arith)))
 
   -- the rules of the row of what stands in its field
   pub fine-here : (x : Node) → nodeOf s at ≡ x → Fine s n x

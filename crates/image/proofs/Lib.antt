@@ -1,5 +1,6 @@
 pub mod Numbers
 pub mod Lists
+pub mod Rules
 pub mod Passing
 pub mod Says
 pub mod Reasons

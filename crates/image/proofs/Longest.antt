@@ -1,62 +1,62 @@
 -- "a valid image has at most" so many bytes, "since node 0 must be a block" (document 01; with W9 that block may have tag 10, and one byte more; with W5
 -- field 1 has up to 62 bytes more).
 use mathlib.Core.Path.{_≡_}
-use mathlib.Core.Logic.{_⊎_}
-use mathlib.Core.Bool.{true}
+use mathlib.Core.Logic.{⊎-elim}
 use mathlib.Core.List.{List}
 use lib.ListN.{length}
-use lib.Dec.{eqb}
-use borrow.Author.Tests.{eqb-true}
 use native.Mathlib.Nat.{not-suc-le-zero}
 use native.Mathlib.Omega.{arith}
-use Prim.Native.Nat.{ℕ, zero, suc, _+_, _*_, _/_, _%_, _≤_}
-use Rattle.schedule.specs.Said.{within}
-use Rattle.image.specs.Fields.{lengthOk, childrenOk}
+use Prim.Native.Nat.{ℕ, zero, suc, _+_, _*_, _≤_}
+use Rattle.image.specs.Rules.{TagRule, LengthRule, ChildRule}
 use Rattle.image.specs.Nodes.{fieldAt}
 use Rattle.image.specs.Conditions.{tagAt, lengthAt, bodyAt, GoodField, Passed, Accepting, longestImage}
 use Rattle.image.specs.declared.Outline.{Outline}
-use Rattle.schedule.proofs.Numbers.{both, is-within}
-use Rattle.image.proofs.Lists.{names-below}
 use Rattle.image.proofs.Passing.{next-at, few, fewer}
-use Rattle.image.proofs.Kept.{by-tag, first-end, first-most, starts-row, node-tag}
+use Rattle.image.proofs.Kept.{good-tag, good-length, node-tag, first-end, first-most, starts-count}
+
+-- a node field's tag is none of fields 1 and 2
+header-none : (own t : ℕ) → TagRule (own + 2) t → (3 ≤ t) × (t ≡ 9 → ⊥)
+header-none own t r = ⊎-elim (λ e. (omega arith, λ q. omega arith)) (λ (lo, hi). (lo, λ q. omega arith)) (node-tag own t r)
 
 -- the longest body of a node field
-body-most : (t n : ℕ) → (t ≡ 10) ⊎ ((3 ≤ t) × (t ≤ 7)) → lengthOk t n ≡ true → n ≤ 32
-unfolding lengthOk
-body-most t n r =
-    by-tag (λ t. lengthOk t n ≡ true → n ≤ 32) t r
-    (λ e. omega (arith, eqb-true n 4 e))
-    (λ e. omega (arith, eqb-true n 3 e))
-    (λ e. is-within 2 32 n (both (within 2 32 n) (eqb (n % 2) 0) e .0) .1)
-    (λ e. omega (arith, is-within 4 16 n (both (within 4 16 n) (eqb (n % 2) 0) e .0) .1))
-    (λ e. omega (arith, eqb-true n 6 e))
-    (λ e. omega (arith, eqb-true n 5 e))
+body-most : (t n : ℕ) → 3 ≤ t → (t ≡ 9 → ⊥) → LengthRule t n → n ≤ 32
+body-most t n lo ne (LengthRule.bus e l) = omega arith
+body-most t n lo ne (LengthRule.starts e l h) = absurd (omega arith)
+body-most t n lo ne (LengthRule.plain e l) = omega arith
+body-most t n lo ne (LengthRule.block e l) = omega arith
+body-most t n lo ne (LengthRule.sequence e l h w) = h
+body-most t n lo ne (LengthRule.branch e l h w) = omega arith
+body-most t n lo ne (LengthRule.loop e l) = omega arith
+body-most t n lo ne (LengthRule.schedule e l h w) = absurd (ne e)
+body-most t n lo ne (LengthRule.once e l) = omega arith
 
 -- node 0 names no child
-block-most : (s : List ℕ) (b t n : ℕ) → (t ≡ 10) ⊎ ((3 ≤ t) × (t ≤ 7)) → lengthOk t n ≡ true → childrenOk s t b n 2 ≡ true → n ≤ 5
-unfolding lengthOk childrenOk
-block-most s b t n r =
-    by-tag (λ t. lengthOk t n ≡ true → childrenOk s t b n 2 ≡ true → n ≤ 5) t r
-    (λ e c. omega (arith, eqb-true n 4 e))
-    (λ e c. omega (arith, eqb-true n 3 e))
-    (λ e c. let l = is-within 2 32 n (both (within 2 32 n) (eqb (n % 2) 0) e .0) .0 in absurd (not-suc-le-zero (names-below s b (n / 2) 0 c 0 (omega arith))))
-    (λ e c. let l = is-within 4 16 n (both (within 4 16 n) (eqb (n % 2) 0) e .0) .0 in absurd (not-suc-le-zero (names-below s b (n / 2) 0 c 0 (omega arith))))
-    (λ e c. absurd (not-suc-le-zero (names-below s (b + 4) 1 0 c 0 (omega arith))))
-    (λ e c. omega (arith, eqb-true n 5 e))
+block-most : (s : List ℕ) (b t n : ℕ) → 3 ≤ t → (t ≡ 9 → ⊥) → ChildRule s t b n 0 → LengthRule t n → n ≤ 5
+block-most s b t n lo ne c (LengthRule.bus e l) = omega arith
+block-most s b t n lo ne c (LengthRule.starts e l h) = absurd (omega arith)
+block-most s b t n lo ne c (LengthRule.plain e l) = omega arith
+block-most s b t n lo ne c (LengthRule.block e l) = omega arith
+block-most s b t n lo ne c (LengthRule.sequence e l h w) = absurd (not-suc-le-zero (c .children (omega arith) (omega arith) 0 (omega arith)))
+block-most s b t n lo ne c (LengthRule.branch e l h w) = absurd (not-suc-le-zero (c .children (omega arith) (omega arith) 0 (omega arith)))
+block-most s b t n lo ne c (LengthRule.loop e l) = absurd (not-suc-le-zero (c .loop e))
+block-most s b t n lo ne c (LengthRule.schedule e l h w) = absurd (ne e)
+block-most s b t n lo ne c (LengthRule.once e l) = omega arith
 
 module _ (s : List ℕ) where
   node-most : (k : ℕ) → GoodField s (k + 2) → lengthAt s (k + 2) ≤ 32
   node-most k g =
-      body-most (tagAt s (k + 2)) (lengthAt s (k + 2)) (node-tag k (tagAt s (k + 2)) (g .tag)) (g .len)
+      let (lo, ne) = header-none k (tagAt s (k + 2)) (good-tag s (k + 2) g) in
+      body-most (tagAt s (k + 2)) (lengthAt s (k + 2)) lo ne (good-length s (k + 2) g)
 
   first-node : GoodField s 2 → lengthAt s 2 ≤ 5
   first-node g =
-      block-most s (bodyAt s 2) (tagAt s 2) (lengthAt s 2) (node-tag 0 (tagAt s 2) (g .tag)) (g .len) (g .children)
+      let (lo, ne) = header-none 0 (tagAt s 2) (good-tag s 2 g) in
+      block-most s (bodyAt s 2) (tagAt s 2) (lengthAt s 2) lo ne (g .1) (good-length s 2 g)
 
   -- node j ends before 335 + 35 × j
   ends-most : (j : ℕ) → Passed s (j + 3) → fieldAt s (j + 3) ≤ 335 + 35 * j
   ends-most zero p =
-      let w = is-within 1 256 (lengthAt s 1) (starts-row s (p 1 (omega arith)) .1) .1 in
+      let w = starts-count s (p 1 (omega arith)) .1 in
       rw (next-at s 2) (omega (arith, first-end s, first-most s (p 0 (omega arith)), next-at s 1, w, first-node (p 2 (omega arith))))
   ends-most (suc j) p =
       let e : suc j + 3 ≡ suc (j + 3) = omega arith in

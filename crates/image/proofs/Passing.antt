@@ -14,6 +14,7 @@ use Rattle.image.specs.Conditions.{lengthAt, GoodField, Passed, Complete
 use Rattle.image.specs.declared.Refusal.{Refusal}
 use Rattle.image.specs.declared.fields.Judgement.the-variants.{Good, Bad}
 use Rattle.image.specs.declared.fields.End.the-variants.{Stopped, Whole}
+use Rattle.image.proofs.Rules.{tested}
 
 module _ (s : List ℕ) where
   pub next-at : (k : ℕ) → fieldAt s (suc k) ≡ fieldAt s k + 3 + lengthAt s k
@@ -27,15 +28,16 @@ module _ (s : List ℕ) where
   pub good-is : (k : ℕ) → GoodField s k → fieldOf s (fieldAt s k) k ≡ Good (fieldAt s (suc k))
   unfolding fieldOf
   good-is k g =
+      let t = tested s k g in
       rw (next-at k)
       (simp (
-        le-ltb (length s - fieldAt s k) 3 (omega (arith, g .head)),
-        g .tag,
-        lt-leb 258 k (g .room),
-        g .len,
-        le-ltb (length s - fieldAt s k - 3) (lengthAt s k) (omega (arith, g .body)),
-        g .value,
-        g .children,
+        le-ltb (length s - fieldAt s k) 3 (omega (arith, t .head)),
+        t .tag,
+        lt-leb 258 k (t .room),
+        t .len,
+        le-ltb (length s - fieldAt s k - 3) (lengthAt s k) (omega (arith, t .body)),
+        t .value,
+        t .children,
       ))
 
   -- the scan at the place of the field with `index` fields before it
@@ -58,14 +60,14 @@ module _ (s : List ℕ) where
 
   pub few : (n : ℕ) → Passed s n → n ≤ 258
   few zero p = omega arith
-  few (suc n) p = omega (arith, p n (omega arith) .room)
+  few (suc n) p = omega (arith, tested s n (p n (omega arith)) .room)
 
   pub fewer : (m n : ℕ) → m ≤ n → Passed s n → Passed s m
   fewer m n h p k l = p k (omega arith)
 
   pub inside : (n : ℕ) → Passed s n → fieldAt s n ≤ length s
   inside zero p = rw first-at (omega arith)
-  inside (suc n) p = rw (next-at n) (p n (omega arith) .body)
+  inside (suc n) p = rw (next-at n) (tested s n (p n (omega arith)) .body)
 
   -- the scan from the front goes on where the passed fields end
   pub rest : (n : ℕ) → Passed s n → scanFrom (259 - n) s (fieldAt s n) n ≡ scan s
@@ -73,7 +75,8 @@ module _ (s : List ℕ) where
   rest zero p = rw first-at
   rest (suc n) p =
       let g = p n (omega arith) in
-      sym (rw (add-one n) at (on-good (fieldAt s n) n (omega (arith, g .room)) (fieldAt s (suc n)) (omega (arith, g .head)) (good-is n g)))
+      let t = tested s n g in
+      sym (rw (add-one n) at (on-good (fieldAt s n) n (omega (arith, t .room)) (fieldAt s (suc n)) (omega (arith, t .head)) (good-is n g)))
       ∙ rest n (fewer n (suc n) (omega arith) p)
 
   pub stops : (k : ℕ) (r : Refusal) → Passed s k → fieldAt s k < length s → fieldOf s (fieldAt s k) k ≡ Bad r → scan s ≡ Stopped r (fieldAt s k)

@@ -2,7 +2,7 @@
 -- the node are the same.
 use mathlib.Core.Path.{_≡_, refl, ap}
 use mathlib.Core.Logic.{_⊎_, ⊎-elim}
-use mathlib.Core.Bool.{Bool, true, false, _&&_}
+use mathlib.Core.Bool.{Bool, true, false, cond, _&&_}
 use mathlib.Core.List.{List}
 use lib.Dec.{eqb, leb, ltb}
 use borrow.Author.Tests.{eqb-true, eqb-false, eq-eqb}
@@ -14,11 +14,11 @@ use Rattle.bytes.proofs.Agreeing.{Agree, agree-part, agree-first, agree-here, w
 use Rattle.schedule.specs.Said.{within, said}
 use Rattle.schedule.proofs.Numbers.{both}
 use Rattle.schedule.proofs.Writings.{agree-turns}
-use Rattle.image.specs.Fields.{choose, lengthOk, startsOk, valueOk, below, childrenOk}
-use Rattle.image.specs.Nodes.{pickNode, nodeFrom, meant}
+use Rattle.image.specs.Fields.{nodeLengthOk, lengthOk, startsOk, nodeValueOk, valueOk, below, childrenOk}
+use Rattle.image.specs.Nodes.{nodeFrom, meant}
 use Rattle.image.specs.declared.nodes.Node.{Node}
 
--- the first m bytes are all that the row's rules read of a body of n bytes
+-- the first m bytes are all that the row's rules, and the node, read of a body of n bytes
 pub record Covers (tag n m : ℕ) : Type 0 where
   pub whole : n ≤ m
   pub bus : eqb tag 1 ≡ true → 3 ≤ m
@@ -27,10 +27,6 @@ pub record Covers (tag n m : ℕ) : Type 0 where
   pub loop : eqb tag 7 ≡ true → 6 ≤ m
   pub turns : eqb tag 9 ≡ true → 1 + 2 * (n / 2) ≤ m
   pub once : eqb tag 10 ≡ true → 5 ≤ m
-
--- and that its node does: a tag that is none of the others is read as a loop's
-abbrev pub CoversLoop : ℕ → ℕ → Type 0
-CoversLoop tag m = eqb tag 3 ≡ false → eqb tag 4 ≡ false → eqb tag 5 ≡ false → eqb tag 6 ≡ false → eqb tag 10 ≡ false → 6 ≤ m
 
 -- six bytes more are enough, whatever the tag and the length
 pub covers-more : (tag n : ℕ) → Covers tag n (6 + n)
@@ -50,7 +46,7 @@ module _ (tag n : ℕ) (len : lengthOk tag n ≡ true) where
   at-tag t is = rw (eqb-true tag t is) at len
 
   pub covers-row : Covers tag n n
-  unfolding lengthOk
+  unfolding lengthOk nodeLengthOk
   covers-row = record {
     whole = omega arith;
     bus = λ is. omega (arith, eqb-true n 3 (at-tag 1 is));
@@ -61,18 +57,9 @@ module _ (tag n : ℕ) (len : lengthOk tag n ≡ true) where
     once = λ is. omega (arith, eqb-true n 5 (at-tag 10 is));
   }
 
-  pub covers-node : (tag ≡ 10) ⊎ ((3 ≤ tag) × (tag ≤ 7)) → CoversLoop tag n
-  covers-node node n3 n4 n5 n6 n10 =
-      ⊎-elim (λ is. absurd (eqb-false tag 10 n10 is))
-      (λ (lo, hi). covers-row .loop (eq-eqb tag 7 (omega (arith, eqb-false tag 3 n3, eqb-false tag 4 n4, eqb-false tag 5 n5, eqb-false tag 6 n6)))) node
-
-choose-same : (t : Bool) (a b c d : Bool) → (t ≡ true → a ≡ c) → (t ≡ false → b ≡ d) → choose t a b ≡ choose t c d
-choose-same true a b c d f g = f refl
-choose-same false a b c d f g = g refl
-
-pick-both : (P : Node → Node → Type 0) (t : Bool) (a b c d : Node) → (t ≡ true → P a c) → (t ≡ false → P b d) → P (pickNode t a b) (pickNode t c d)
-pick-both P true a b c d f g = f refl
-pick-both P false a b c d f g = g refl
+by-both : {A B : Type 0} (P : A → B → Type 0) (t : Bool) (a b : A) (c d : B) → (t ≡ true → P a c) → (t ≡ false → P b d) → P (cond t a b) (cond t c d)
+by-both P true a b c d f g = f refl
+by-both P false a b c d f g = g refl
 
 module _ (s e : List ℕ) where
   agree-starts : (p q n least period : ℕ) → Agree s e p q n → startsOk e q n least period ≡ startsOk s p n least period
@@ -95,49 +82,50 @@ module _ (s e : List ℕ) where
   module _ (tag p q n m : ℕ) (c : Covers tag n m) (h : Agree s e p q m) where
     -- the buses have the same period and longest access
     pub agree-value : said e .period ≡ said s .period → said e .most ≡ said s .most → valueOk e tag q n ≡ valueOk s tag p n
-    unfolding valueOk
+    unfolding valueOk nodeValueOk
     agree-value period most =
-        choose-same (eqb tag 1) _ _ _ _
+        by-both _≡_ (eqb tag 1) _ _ _ _
         (λ is. let l = c .bus is in rw (agree-here s e p q m h (omega arith), h 1 (omega arith), h 2 (omega arith)))
-        (λ n1. choose-same (eqb tag 2) _ _ _ _
+        (λ n1. by-both _≡_ (eqb tag 2) _ _ _ _
         (λ is. rw period (agree-starts p q n 0 (said s .period) (agree-first s e p q m n h (c .whole))))
-        (λ n2. choose-same (eqb tag 3) _ _ _ _
+        (λ n2. by-both _≡_ (within 3 7 tag) _ _ _ _
+        (λ w. by-both _≡_ (eqb tag 3) _ _ _ _
         (λ is. let l = c .plain is in rw (word-here s e p q m h (omega arith), agree-word s e p q m 2 h (omega arith)))
-        (λ n3. choose-same (eqb tag 4) _ _ _ _
+        (λ n3. by-both _≡_ (eqb tag 4) _ _ _ _
         (λ is. let l = c .block is in rw (most, agree-here s e p q m h (omega arith), h 1 (omega arith), h 2 (omega arith)))
-        (λ n4. choose-same (eqb tag 7) _ _ _ _
+        (λ n4. by-both _≡_ (within 5 6 tag) _ _ _ _ (λ is. refl)
+        (λ n5. by-both _≡_ (eqb tag 7) _ _ _ _
         (λ is. let l = c .loop is in rw (word-here s e p q m h (omega arith), agree-word s e p q m 2 h (omega arith)))
-        (λ n7. choose-same (eqb tag 10) _ _ _ _
-        (λ is. let l = c .once is in rw (most, agree-here s e p q m h (omega arith), h 1 (omega arith), h 2 (omega arith), agree-word s e p q m 3 h (omega arith)))
-        (λ n10. choose-same (eqb tag 9) _ _ _ _
+        (λ n7. refl)))))
+        (λ w. by-both _≡_ (eqb tag 9) _ _ _ _
         (λ is. let l = c .turns is in rw (agree-here s e p q m h (omega arith), agree-turns s e (p + 1) (q + 1) (n / 2) (agree-part s e p q m 1 (2 * (n / 2)) h (omega arith))))
-        (λ n9. refl)))))))
+        (λ n9. by-both _≡_ (eqb tag 10) _ _ _ _
+        (λ is. let l = c .once is in rw (most, agree-here s e p q m h (omega arith), h 1 (omega arith), h 2 (omega arith), agree-word s e p q m 3 h (omega arith)))
+        (λ n10. refl)))))
 
     pub agree-children : (index : ℕ) → childrenOk e tag q n index ≡ childrenOk s tag p n index
     unfolding childrenOk
     agree-children index =
-        choose-same (within 5 6 tag) _ _ _ _
+        by-both _≡_ (within 5 6 tag) _ _ _ _
         (λ is. agree-below p q (n / 2) index (agree-first s e p q m (2 * (n / 2)) h (omega (arith, c .whole))))
-        (λ n5. choose-same (eqb tag 7) _ _ _ _
+        (λ n5. by-both _≡_ (eqb tag 7) _ _ _ _
         (λ is. let l = c .loop is in agree-below (p + 4) (q + 4) 1 index (agree-part s e p q m 4 2 h (omega arith)))
         (λ n7. refl))
 
     named : words e q (n / 2) ≡ words s p (n / 2)
     named = agree-words s e p q (n / 2) (agree-first s e p q m (2 * (n / 2)) h (omega (arith, c .whole)))
 
-    pub agree-node : CoversLoop tag m → meant e (nodeFrom e tag q n) ≡ meant s (nodeFrom s tag p n)
+    pub agree-node : meant e (nodeFrom e tag q n) ≡ meant s (nodeFrom s tag p n)
     unfolding nodeFrom meant
-    agree-node last =
-        pick-both (λ x y. meant e x ≡ meant s y) (eqb tag 3) _ _ _ _
+    agree-node =
+        by-both (λ x y. meant e x ≡ meant s y) (eqb tag 3) _ _ _ _
         (λ is. let l = c .plain is in rw (word-here s e p q m h (omega arith), agree-word s e p q m 2 h (omega arith)))
-        (λ n3. pick-both (λ x y. meant e x ≡ meant s y) (eqb tag 4) _ _ _ _
+        (λ n3. by-both (λ x y. meant e x ≡ meant s y) (eqb tag 4) _ _ _ _
         (λ is. let l = c .block is in rw (agree-here s e p q m h (omega arith), h 1 (omega arith), h 2 (omega arith)))
-        (λ n4. pick-both (λ x y. meant e x ≡ meant s y) (eqb tag 5) _ _ _ _
-        (λ is. ap RunNode.sequence named)
-        (λ n5. pick-both (λ x y. meant e x ≡ meant s y) (eqb tag 6) _ _ _ _
-        (λ is. ap RunNode.branch named)
-        (λ n6. pick-both (λ x y. meant e x ≡ meant s y) (eqb tag 10) _ _ _ _
+        (λ n4. by-both (λ x y. meant e x ≡ meant s y) (within 5 6 tag) _ _ _ _
+        (λ w. by-both (λ x y. meant e x ≡ meant s y) (eqb tag 5) _ _ _ _ (λ is. ap RunNode.sequence named) (λ n5. ap RunNode.branch named))
+        (λ w. by-both (λ x y. meant e x ≡ meant s y) (eqb tag 7) _ _ _ _
+        (λ is. let l = c .loop is in rw (word-here s e p q m h (omega arith), agree-word s e p q m 2 h (omega arith), agree-word s e p q m 4 h (omega arith)))
+        (λ n7. by-both (λ x y. meant e x ≡ meant s y) (eqb tag 10) _ _ _ _
         (λ is. let l = c .once is in rw (agree-here s e p q m h (omega arith), h 1 (omega arith), h 2 (omega arith), agree-word s e p q m 3 h (omega arith)))
-        (λ n10.
-        let l = last n3 n4 n5 n6 n10 in
-        rw (word-here s e p q m h (omega arith), agree-word s e p q m 2 h (omega arith), agree-word s e p q m 4 h (omega arith)))))))
+        (λ n10. refl)))))

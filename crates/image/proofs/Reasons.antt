@@ -23,6 +23,7 @@ use Rattle.image.specs.declared.fields.End.the-variants.{Whole}
 use Rattle.image.specs.declared.Outline.{Outline}
 use Rattle.image.specs.declared.Verdict.{Verdict}
 use Rattle.image.specs.declared.Verdict.the-variants.{Accepted, Refused}
+use Rattle.image.proofs.Rules.{refused, tag-here, length-here, value-here, child-here}
 use Rattle.image.proofs.Passing.{stops, ends}
 use Rattle.image.proofs.Says.{VerdictSays, EndSays, says, scan-says}
 
@@ -45,14 +46,19 @@ module _ (s : List ℕ) where
   pub refused-when : (r : Refusal) (place : ℕ) → Condition s r place → judged s ≡ Refused r place
   unfolding fieldOf wholeOf
   refused-when Cut _ (head-cut k p l h) = stopped k Cut p l (simp (lt-ltb (length s - fieldAt s k) 3 (omega arith)))
-  refused-when Tag _ (wrong-tag k p h a) = stopped k Tag p (omega arith) (simp (head k h, a))
-  refused-when Full _ (one-more p h a) = stopped 258 Full p (omega arith) (simp (head 258 h, a))
-  refused-when Length _ (wrong-length k p h a r n) = stopped k Length p (omega arith) (simp (head k h, a, lt-leb 258 k r, n))
-  refused-when Cut _ (body-cut k p h a r n c) =
-      stopped k Cut p (omega arith) (simp (head k h, a, lt-leb 258 k r, n, lt-ltb (length s - fieldAt s k - 3) (lengthAt s k) (omega arith)))
-  refused-when Value _ (wrong-value k p h a r n i v) = stopped k Value p (omega arith) (simp (head k h, a, lt-leb 258 k r, n, body k i, v))
-  refused-when Forward _ (not-below k p h a r n i v c) =
-      stopped k Forward p (omega arith) (simp (head k h, a, lt-leb 258 k r, n, body k i, v, c))
+  refused-when Tag _ (wrong-tag k p h a) = stopped k Tag p (omega arith) (simp (head k h, refused _ (tag-here s k) a))
+  refused-when Full _ (one-more p (h, a)) = stopped 258 Full p (omega arith) (simp (head 258 h, tag-here s 258 .passes a))
+  refused-when Length _ (wrong-length k p ((h, a), r) n) =
+      stopped k Length p (omega arith) (simp (head k h, tag-here s k .passes a, lt-leb 258 k r, refused _ (length-here s k) n))
+  refused-when Cut _ (body-cut k p (((h, a), r), n) c) =
+      stopped k Cut p (omega arith)
+      (simp (head k h, tag-here s k .passes a, lt-leb 258 k r, length-here s k .passes n, lt-ltb (length s - fieldAt s k - 3) (lengthAt s k) (omega arith)))
+  refused-when Value _ (wrong-value k p ((((h, a), r), n), i) v) =
+      stopped k Value p (omega arith)
+      (simp (head k h, tag-here s k .passes a, lt-leb 258 k r, length-here s k .passes n, body k i, refused _ (value-here s k (((h, a), r), n)) v))
+  refused-when Forward _ (not-below k p (((((h, a), r), n), i), v) c) =
+      stopped k Forward p (omega arith)
+      (simp (head k h, tag-here s k .passes a, lt-leb 258 k r, length-here s k .passes n, body k i, value-here s k (((h, a), r), n) .passes v, refused _ (child-here s k) c))
   refused-when Unfinished _ (no-node n c h) = whole n c ∙ simp (lt-ltb n 3 h)
   refused-when Deep _ (too-deep n c d) =
       let e : n + 3 - 3 ≡ n = omega arith in
@@ -99,7 +105,7 @@ module _ (s : List ℕ) where
         sym (a .lines),
         sym (a .sets),
         sym (a .period),
-        le-ltb 1024 (t .period * t .sets) (rw (a .period) (a .narrow)),
+        le-ltb 1024 (t .period * t .sets) (a .narrow),
         sym (a .starts),
       )
 
@@ -110,11 +116,11 @@ module _ (s : List ℕ) where
       own : {r′ : Refusal} {place′ : ℕ} → Condition s r′ place′ → (numberOf r′ ≤ 9) ⊎ (numberOf r′ ≡ 18)
       own (head-cut k p l h) = inl (omega arith)
       own (wrong-tag k p h t) = inl (omega arith)
-      own (one-more p h t) = inl (omega arith)
-      own (wrong-length k p h t f l) = inl (omega arith)
-      own (body-cut k p h t f l b) = inl (omega arith)
-      own (wrong-value k p h t f l b v) = inl (omega arith)
-      own (not-below k p h t f l b v c) = inl (omega arith)
+      own (one-more p u) = inl (omega arith)
+      own (wrong-length k p u l) = inl (omega arith)
+      own (body-cut k p u b) = inl (omega arith)
+      own (wrong-value k p u v) = inl (omega arith)
+      own (not-below k p u c) = inl (omega arith)
       own (no-node n c h) = inl (omega arith)
       own (too-deep n c h) = inl (omega arith)
       own (too-long n c h v) = inl (omega arith)

@@ -1,7 +1,6 @@
 -- Two images that differ in field 1 alone. Where that is good in both, and says the same period and the same longest access, the rest is judged alike:
 -- the same task, or the same refusal so many bytes further on.
 use mathlib.Core.Path.{_≡_, refl, sym, _∙_, ap}
-use mathlib.Core.Bool.{Bool, true, false, false≢true}
 use mathlib.Core.List.{List, _++_}
 use native.Mathlib.Omega.{arith}
 use Prim.Native.Nat.{ℕ, zero, suc, _+_, _-_, _≤_}
@@ -11,13 +10,15 @@ use Rattle.bytes.proofs.Agreeing.{Agree, agree-here, agree-word, agree-bytes, b
 use Rattle.schedule.specs.Said.{said}
 use Rattle.image.specs.Fields.{valueOk, childrenOk}
 use Rattle.image.specs.Nodes.{fieldAt, nodeAt, linesOf, treeAt, startsOf}
-use Rattle.image.specs.Conditions.{tagAt, lengthAt, bodyAt, GoodField, Passed, Complete, Condition, head-cut, wrong-tag, one-more, wrong-length, body-cut, wrong-value, not-below, no-node, too-deep, too-long, too-wide, Accepting}
+use Rattle.image.specs.Conditions.{tagAt, lengthAt, bodyAt, UpToTag, UpToLength, UpToValue, GoodField, Passed, Complete, Condition, head-cut, wrong-tag, one-more, wrong-length, body-cut, wrong-value, not-below, no-node, too-deep, too-long, too-wide, Accepting}
 use Rattle.image.specs.Judged.{judged}
 use Rattle.image.specs.Moved.{moved}
 use Rattle.image.specs.declared.Refusal.{Refusal}
 use Rattle.image.specs.declared.Outline.{Outline}
 use Rattle.image.specs.declared.Verdict.{Verdict}
 use Rattle.image.specs.declared.Verdict.the-variants.{Accepted, Refused}
+use Rattle.image.proofs.Rules.{carries, value-here, child-here}
+use Rattle.image.proofs.Kept.{good-head, good-tag, good-length, good-body, good-value}
 use Rattle.image.proofs.Passing.{next-at, first-at}
 use Rattle.image.proofs.Reading.{covers-more, agree-value, agree-children, agree-node}
 use Rattle.image.proofs.Reasons.{refused-when, when-refused, when-accepted, accepted-when}
@@ -98,23 +99,25 @@ module _ (a c rest : List ℕ) (d : ℕ) (h : Instead a c rest d) where
   ends-moved : (k : ℕ) → bodyAt s (suc k) + lengthAt s (suc k) ≤ length s → bodyAt e (suc k) + lengthAt e (suc k) ≤ length e
   ends-moved k l = omega (arith, place-moved k, length-moved k, long)
 
+  tag-on : (k : ℕ) → UpToTag s (suc k) → UpToTag e (suc k)
+  tag-on k (h, a) = (head-moved k h, rw (tag-moved k) a)
+
+  length-on : (k : ℕ) → UpToLength s (suc k) → UpToLength e (suc k)
+  length-on k ((u, r), n) = ((tag-on k u, r), rw (tag-moved k, length-moved k) n)
+
+  value-on : (k : ℕ) → UpToValue s (suc k) → UpToValue e (suc k)
+  value-on k ((u, i), v) =
+      ((length-on k u, ends-moved k i), carries (value-here s (suc k) u) (value-here e (suc k) (length-on k u)) (sym (value-moved k)) v)
+
   good-moved : (k : ℕ) → GoodField s k → GoodField e k
   good-moved zero g = h .good′
-  good-moved (suc k) g = record {
-    head = head-moved k (g .head);
-    tag = rw (tag-moved k) (g .tag);
-    room = g .room;
-    len = rw (tag-moved k, length-moved k) (g .len);
-    body = ends-moved k (g .body);
-    value = value-moved k ∙ g .value;
-    children = children-moved k ∙ g .children;
-  }
+  good-moved (suc k) (u, c) = (value-on k u, carries (child-here s (suc k)) (child-here e (suc k)) (sym (children-moved k)) c)
 
   passed-moved : (n : ℕ) → Passed s n → Passed e n
   passed-moved n p k l = good-moved k (p k l)
 
   complete-moved : (n : ℕ) → Complete s n → Complete e n
-  complete-moved zero c = absurd (omega (arith, c .ends, first-at s, h .good .head))
+  complete-moved zero c = absurd (omega (arith, c .ends, first-at s, good-head s 0 (h .good)))
   complete-moved (suc n) c = record { passed = passed-moved (suc n) (c .passed); ends = omega (arith, place-moved n, c .ends, long) }
 
   -- every node says the same
@@ -126,7 +129,7 @@ module _ (a c rest : List ℕ) (d : ℕ) (h : Instead a c rest d) where
       let t = tagAt s (suc k) in
       let m = lengthAt s (suc k) in
       rw (z, tag-moved k, length-moved k, body-moved k)
-      (agree-node s e t (bodyAt s (suc k)) (bodyAt s (suc k) + d) m (6 + m) (covers-more t m) (body-agrees k (6 + m)) (λ n3 n4 n5 n6 n10. omega arith))
+      (agree-node s e t (bodyAt s (suc k)) (bodyAt s (suc k) + d) m (6 + m) (covers-more t m) (body-agrees k (6 + m)))
 
   pub nodes-same : nodeAt e ≡ nodeAt s
   nodes-same = λ i n. node-moved n i
@@ -150,35 +153,33 @@ module _ (a c rest : List ℕ) (d : ℕ) (h : Instead a c rest d) where
     starts = x .starts ∙ sym (length-moved 0);
     lines = x .lines ∙ sym (lines-same (t .nodes));
     sets = x .sets;
-    narrow = rw (h .period) (x .narrow);
+    narrow = x .narrow;
   }
 
   -- a field that is refused is not the first
   at : (r : Refusal) (k : ℕ) → Condition e r (fieldAt e (suc k)) → Condition e r (fieldAt s (suc k) + d)
   at r k x = rw (place-moved k) at x
 
-  not-so : (t : Bool) → t ≡ true → t ≡ false → ⊥
-  not-so t a b = false≢true (sym b ∙ a)
-
   condition-moved : (r : Refusal) (place : ℕ) → Condition s r place → Condition e r (place + d)
-  condition-moved r _ (head-cut zero p l x) = absurd (omega (arith, x, h .good .head))
+  condition-moved r _ (head-cut zero p l x) = absurd (omega (arith, x, good-head s 0 (h .good)))
   condition-moved r _ (head-cut (suc k) p l x) =
       at r k (head-cut (suc k) (passed-moved (suc k) p) (omega (arith, place-moved k, long)) (omega (arith, place-moved k, long)))
-  condition-moved r _ (wrong-tag zero p x f) = absurd (not-so _ (h .good .tag) f)
-  condition-moved r _ (wrong-tag (suc k) p x f) = at r k (wrong-tag (suc k) (passed-moved (suc k) p) (head-moved k x) (rw (tag-moved k) f))
-  condition-moved r _ (one-more p x t) = at r 257 (one-more (passed-moved 258 p) (head-moved 257 x) (rw (tag-moved 257) t))
-  condition-moved r _ (wrong-length zero p x t m f) = absurd (not-so _ (h .good .len) f)
-  condition-moved r _ (wrong-length (suc k) p x t m f) =
-      at r k (wrong-length (suc k) (passed-moved (suc k) p) (head-moved k x) (rw (tag-moved k) t) m (rw (tag-moved k, length-moved k) f))
-  condition-moved r _ (body-cut zero p x t m n y) = absurd (omega (arith, y, h .good .body))
-  condition-moved r _ (body-cut (suc k) p x t m n y) =
-      at r k (body-cut (suc k) (passed-moved (suc k) p) (head-moved k x) (rw (tag-moved k) t) m (rw (tag-moved k, length-moved k) n) (omega (arith, place-moved k, length-moved k, long)))
-  condition-moved r _ (wrong-value zero p x t m n y f) = absurd (not-so _ (h .good .value) f)
-  condition-moved r _ (wrong-value (suc k) p x t m n y f) =
-      at r k (wrong-value (suc k) (passed-moved (suc k) p) (head-moved k x) (rw (tag-moved k) t) m (rw (tag-moved k, length-moved k) n) (ends-moved k y) (value-moved k ∙ f))
-  condition-moved r _ (not-below zero p x t m n y v f) = absurd (not-so _ (h .good .children) f)
-  condition-moved r _ (not-below (suc k) p x t m n y v f) =
-      at r k (not-below (suc k) (passed-moved (suc k) p) (head-moved k x) (rw (tag-moved k) t) m (rw (tag-moved k, length-moved k) n) (ends-moved k y) (value-moved k ∙ v) (children-moved k ∙ f))
+  condition-moved r _ (wrong-tag zero p x f) = absurd (f (good-tag s 0 (h .good)))
+  condition-moved r _ (wrong-tag (suc k) p x f) = at r k (wrong-tag (suc k) (passed-moved (suc k) p) (head-moved k x) (λ a. f (rw (tag-moved k) at a)))
+  condition-moved r _ (one-more p u) = at r 257 (one-more (passed-moved 258 p) (tag-on 257 u))
+  condition-moved r _ (wrong-length zero p u f) = absurd (f (good-length s 0 (h .good)))
+  condition-moved r _ (wrong-length (suc k) p (u, m) f) =
+      at r k (wrong-length (suc k) (passed-moved (suc k) p) (tag-on k u, m) (λ n. f (rw (tag-moved k, length-moved k) at n)))
+  condition-moved r _ (body-cut zero p u y) = absurd (omega (arith, y, good-body s 0 (h .good)))
+  condition-moved r _ (body-cut (suc k) p u y) =
+      at r k (body-cut (suc k) (passed-moved (suc k) p) (length-on k u) (omega (arith, place-moved k, length-moved k, long)))
+  condition-moved r _ (wrong-value zero p u f) = absurd (f (good-value s 0 (h .good)))
+  condition-moved r _ (wrong-value (suc k) p (u, y) f) =
+      at r k (wrong-value (suc k) (passed-moved (suc k) p) (length-on k u, ends-moved k y)
+      (λ v. f (carries (value-here e (suc k) (length-on k u)) (value-here s (suc k) u) (value-moved k) v)))
+  condition-moved r _ (not-below zero p u f) = absurd (f (h .good .1))
+  condition-moved r _ (not-below (suc k) p u f) =
+      at r k (not-below (suc k) (passed-moved (suc k) p) (value-on k u) (λ c. f (carries (child-here e (suc k)) (child-here s (suc k)) (children-moved k) c)))
   condition-moved r _ (no-node n x l) = rw long at (no-node n (complete-moved n x) l)
   condition-moved r _ (too-deep n x l) = rw long at (too-deep n (complete-moved (n + 3) x) (rw (tree-same n) l))
   condition-moved r _ (too-long n x l m) = rw long at (too-long n (complete-moved (n + 3) x) (rw (tree-same n) l) (rw (tree-same n) m))

@@ -1,6 +1,6 @@
 -- What a field, a scan and a verdict say: at each test either the condition of a row of the table holds, or judging goes on.
 use mathlib.Core.Path.{_≡_, refl, sym, subst}
-use mathlib.Core.Bool.{Bool, true, false, not}
+use mathlib.Core.Bool.{Bool, true, false, cond, not}
 use mathlib.Core.List.{List}
 use Prim.Native.Nat.{ℕ, zero, suc, _+_, _-_, _*_, _≤_, _<_}
 use native.Mathlib.Omega.{arith}
@@ -11,10 +11,10 @@ use borrow.Author.Tests.{ltb-true, ltb-false, leb-true, leb-false, not-true, not
 use Rattle.runs.specs.Lines.{power}
 use Rattle.runs.specs.Nodes.{depth, visits}
 use Rattle.schedule.specs.Said.{said}
-use Rattle.image.specs.Fields.{tagOk, lengthOk, valueOk, childrenOk, refuse, fieldOf}
+use Rattle.image.specs.Fields.{tagOk, lengthOk, valueOk, childrenOk, fieldOf}
 use Rattle.image.specs.Nodes.{fieldAt, linesOf, treeAt}
-use Rattle.image.specs.Judged.{pickEnd, onField, scanFrom, scan, refuseAll, wholeOf, onEnd, judged}
-use Rattle.image.specs.Conditions.{tagAt, lengthAt, bodyAt, GoodField, Passed, Complete, Condition, head-cut, wrong-tag, one-more, wrong-length, body-cut, wrong-value, not-below, no-node, too-deep, too-long, too-wide, Accepting}
+use Rattle.image.specs.Judged.{onField, scanFrom, scan, wholeOf, onEnd, judged}
+use Rattle.image.specs.Conditions.{tagAt, lengthAt, bodyAt, UpToTag, UpToValue, GoodField, Passed, Complete, Condition, head-cut, wrong-tag, one-more, wrong-length, body-cut, wrong-value, not-below, no-node, too-deep, too-long, too-wide, Accepting}
 use Rattle.image.specs.declared.Refusal.{Refusal}
 use Rattle.image.specs.declared.Refusal.the-variants.{Cut, Tag, Full, Length, Value, Forward, Unfinished, Deep, Long, Lines}
 use Rattle.image.specs.declared.fields.Judgement.{Judgement}
@@ -23,20 +23,12 @@ use Rattle.image.specs.declared.fields.End.{End}
 use Rattle.image.specs.declared.fields.End.the-variants.{Stopped, Whole}
 use Rattle.image.specs.declared.Verdict.{Verdict}
 use Rattle.image.specs.declared.Verdict.the-variants.{Accepted, Refused}
+use Rattle.image.proofs.Rules.{fails, tag-here, length-here, value-here, child-here}
 use Rattle.image.proofs.Passing.{next-at, first-at, few, inside, passed-more}
 
-by-test : (P : Judgement → Type 0) (b : Bool) (r : Refusal) (rest : Judgement) → (b ≡ true → P (Bad r)) → (b ≡ false → P rest) → P (refuse b r rest)
-by-test P true r rest f g = f refl
-by-test P false r rest f g = g refl
-
-by-end : (P : End → Type 0) (b : Bool) (here rest : End) → (b ≡ true → P here) → (b ≡ false → P rest) → P (pickEnd b here rest)
-by-end P true here rest f g = f refl
-by-end P false here rest f g = g refl
-
-by-all : (P : Verdict → Type 0) (b : Bool) (r : Refusal) (place : ℕ) (rest : Verdict) → (b ≡ true → P (Refused r place)) → (b ≡ false → P rest)
-    → P (refuseAll b r place rest)
-by-all P true r place rest f g = f refl
-by-all P false r place rest f g = g refl
+by-cond : {A : Type 0} (P : A → Type 0) (b : Bool) (x y : A) → (b ≡ true → P x) → (b ≡ false → P y) → P (cond b x y)
+by-cond P true x y f g = f refl
+by-cond P false x y f g = g refl
 
 module _ (s : List ℕ) where
   -- of the field with k fields before it
@@ -62,41 +54,39 @@ module _ (s : List ℕ) where
       let w = lengthAt s k in
       let b = bodyAt s k in
       let p7 = Good (b + w) in
-      let p6 = refuse (not (childrenOk s t b w k)) Forward p7 in
-      let p5 = refuse (not (valueOk s t b w)) Value p6 in
-      let p4 = refuse (ltb (length s - at - 3) w) Cut p5 in
-      let p3 = refuse (not (lengthOk t w)) Length p4 in
-      let p2 = refuse (leb 258 k) Full p3 in
-      let p1 = refuse (not (tagOk k t)) Tag p2 in
-      by-test (FieldSays k) (ltb (length s - at) 3) Cut p1
+      let p6 = cond (not (childrenOk s t b w k)) (Bad Forward) p7 in
+      let p5 = cond (not (valueOk s t b w)) (Bad Value) p6 in
+      let p4 = cond (ltb (length s - at - 3) w) (Bad Cut) p5 in
+      let p3 = cond (not (lengthOk t w)) (Bad Length) p4 in
+      let p2 = cond (leb 258 k) (Bad Full) p3 in
+      let p1 = cond (not (tagOk k t)) (Bad Tag) p2 in
+      by-cond (FieldSays k) (ltb (length s - at) 3) (Bad Cut) p1
       (λ e. head-cut k p l (omega (arith, ltb-true (length s - at) 3 e)))
       (λ e1. let h : at + 3 ≤ length s = omega (arith, ltb-false (length s - at) 3 e1) in
-      by-test (FieldSays k) (not (tagOk k t)) Tag p2
-      (λ e. wrong-tag k p h (not-true _ e))
-      (λ e2. let a = not-false _ e2 in
-      by-test (FieldSays k) (leb 258 k) Full p3
-      (λ e. full k p h a (leb-true 258 k e))
+      by-cond (FieldSays k) (not (tagOk k t)) (Bad Tag) p2
+      (λ e. wrong-tag k p h (fails _ (tag-here s k) (not-true _ e)))
+      (λ e2. let u : UpToTag s k = (h, tag-here s k .holds (not-false _ e2)) in
+      by-cond (FieldSays k) (leb 258 k) (Bad Full) p3
+      (λ e. full k p u (leb-true 258 k e))
       (λ e3. let r = leb-false 258 k e3 in
-      by-test (FieldSays k) (not (lengthOk t w)) Length p4
-      (λ e. wrong-length k p h a r (not-true _ e))
-      (λ e4. let n = not-false _ e4 in
-      by-test (FieldSays k) (ltb (length s - at - 3) w) Cut p5
-      (λ e. body-cut k p h a r n (omega (arith, ltb-true (length s - at - 3) w e)))
+      by-cond (FieldSays k) (not (lengthOk t w)) (Bad Length) p4
+      (λ e. wrong-length k p (u, r) (fails _ (length-here s k) (not-true _ e)))
+      (λ e4. let n = length-here s k .holds (not-false _ e4) in
+      let d = value-here s k ((u, r), n) in
+      by-cond (FieldSays k) (ltb (length s - at - 3) w) (Bad Cut) p5
+      (λ e. body-cut k p ((u, r), n) (omega (arith, ltb-true (length s - at - 3) w e)))
       (λ e5. let i : b + w ≤ length s = omega (arith, ltb-false (length s - at - 3) w e5) in
-      by-test (FieldSays k) (not (valueOk s t b w)) Value p6
-      (λ e. wrong-value k p h a r n i (not-true _ e))
-      (λ e6. let v = not-false _ e6 in
-      by-test (FieldSays k) (not (childrenOk s t b w k)) Forward p7
-      (λ e. not-below k p h a r n i v (not-true _ e))
-      (λ e7. (
-        record { head = h; tag = a; room = r; len = n; body = i; value = v; children = not-false _ e7 },
-        sym (next-at s k),
-      ))))))))
+      by-cond (FieldSays k) (not (valueOk s t b w)) (Bad Value) p6
+      (λ e. wrong-value k p (((u, r), n), i) (fails _ d (not-true _ e)))
+      (λ e6. let v : UpToValue s k = ((((u, r), n), i), d .holds (not-false _ e6)) in
+      by-cond (FieldSays k) (not (childrenOk s t b w k)) (Bad Forward) p7
+      (λ e. not-below k p v (fails _ (child-here s k) (not-true _ e)))
+      (λ e7. ((v, child-here s k .holds (not-false _ e7)), sym (next-at s k)))))))))
     where
-      full : (k : ℕ) → Passed s k → fieldAt s k + 3 ≤ length s → tagOk k (tagAt s k) ≡ true → 258 ≤ k → Condition s Full (fieldAt s k)
-      full k p h a q =
+      full : (k : ℕ) → Passed s k → UpToTag s k → 258 ≤ k → Condition s Full (fieldAt s k)
+      full k p u q =
           let e : k ≡ 258 = omega (arith, few s k p) in
-          subst (λ (k : ℕ). Passed s k → fieldAt s k + 3 ≤ length s → tagOk k (tagAt s k) ≡ true → Condition s Full (fieldAt s k)) (sym e) one-more p h a
+          subst (λ (k : ℕ). Passed s k → UpToTag s k → Condition s Full (fieldAt s k)) (sym e) one-more p u
 
   on-field : (fuel k : ℕ) (j : Judgement) → (GoodField s k → EndSays (scanFrom fuel s (fieldAt s (k + 1)) (k + 1))) → FieldSays k j
       → EndSays (onField (fieldAt s k) (λ next. scanFrom fuel s next (k + 1)) j)
@@ -110,7 +100,7 @@ module _ (s : List ℕ) where
   from-field (suc fuel) k e p =
       let at = fieldAt s k in
       let go = onField at (λ next. scanFrom fuel s next (k + 1)) (fieldOf s at k) in
-      by-end EndSays (leb (length s) at) (Whole k) go
+      by-cond EndSays (leb (length s) at) (Whole k) go
       (λ l. record { passed = p; ends = omega (arith, leb-true (length s) at l, inside s k p) })
       (λ l. on-field fuel k (fieldOf s at k) (λ g. from-field fuel (k + 1) (omega arith) (passed-more s k p g)) (field-says k p (leb-false (length s) at l)))
 
@@ -123,21 +113,21 @@ module _ (s : List ℕ) where
   whole-says n c =
       let x = linesOf s (n - 2) in
       let p4 = Accepted (record { period = said s .period; starts = lengthAt s 1; lines = x; sets = power x; nodes = n - 2; entry = n - 3 }) in
-      let p3 = refuseAll (ltb 1024 (said s .period * power x)) Lines (length s) p4 in
-      let p2 = refuseAll (ltb 100000 (visits (treeAt s (n - 3)))) Long (length s) p3 in
-      let p1 = refuseAll (ltb 24 (depth (treeAt s (n - 3)))) Deep (length s) p2 in
-      by-all VerdictSays (ltb n 3) Unfinished (length s) p1
+      let p3 = cond (ltb 1024 (said s .period * power x)) (Refused Lines (length s)) p4 in
+      let p2 = cond (ltb 100000 (visits (treeAt s (n - 3)))) (Refused Long (length s)) p3 in
+      let p1 = cond (ltb 24 (depth (treeAt s (n - 3)))) (Refused Deep (length s)) p2 in
+      by-cond VerdictSays (ltb n 3) (Refused Unfinished (length s)) p1
       (λ e. no-node n c (ltb-true n 3 e))
       (λ e1. let h = ltb-false n 3 e1 in
       let q : n ≡ n - 3 + 3 = omega arith in
       let w : n ≡ n - 2 + 2 = omega arith in
-      by-all VerdictSays (ltb 24 (depth (treeAt s (n - 3)))) Deep (length s) p2
+      by-cond VerdictSays (ltb 24 (depth (treeAt s (n - 3)))) (Refused Deep (length s)) p2
       (λ e. too-deep (n - 3) (subst (Complete s) q c) (ltb-true 24 _ e))
       (λ e2. let d = ltb-false 24 (depth (treeAt s (n - 3))) e2 in
-      by-all VerdictSays (ltb 100000 (visits (treeAt s (n - 3)))) Long (length s) p3
+      by-cond VerdictSays (ltb 100000 (visits (treeAt s (n - 3)))) (Refused Long (length s)) p3
       (λ e. too-long (n - 3) (subst (Complete s) q c) d (ltb-true 100000 _ e))
       (λ e3. let v = ltb-false 100000 (visits (treeAt s (n - 3))) e3 in
-      by-all VerdictSays (ltb 1024 (said s .period * power x)) Lines (length s) p4
+      by-cond VerdictSays (ltb 1024 (said s .period * power x)) (Refused Lines (length s)) p4
       (λ e. let m : n - 2 ≡ suc (n - 3) = omega arith in
       too-wide (n - 3) (subst (Complete s) q c) d v (subst (λ (z : ℕ). 1024 < said s .period * power (linesOf s z)) m (ltb-true 1024 _ e)))
       (λ e4. record {

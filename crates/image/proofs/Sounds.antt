@@ -3,7 +3,7 @@ use mathlib.Core.Path.{_≡_, sym, _∙_}
 use mathlib.Core.Bool.{true, false}
 use mathlib.Core.Option.{none}
 use mathlib.Core.List.{List}
-use Prim.Native.Nat.{ℕ, _+_, _<_}
+use Prim.Native.Nat.{ℕ, _+_, _≤_, _<_}
 use native.Mathlib.Omega.{arith}
 use lib.ListN.{getD}
 use Rattle.runs.specs.Runs.{isStart}
@@ -14,16 +14,16 @@ use Rattle.bytes.specs.Bytes.{byteAt}
 use Rattle.schedule.specs.Said.{said, Ranged}
 use Rattle.image.specs.Nodes.{fieldAt, nodeOf, meant, nodeAt, startsOf, taskOf}
 use Rattle.image.specs.Judged.{judged}
+use Rattle.image.specs.Rules.{Starts}
 use Rattle.image.specs.Conditions.{lengthAt, bodyAt, GoodField, Accepting}
-use Rattle.image.specs.Promise.{Starts, Fine, Sound, Standing}
-use Rattle.image.specs.Inner.{Placed}
+use Rattle.image.specs.Promise.{Fine, Sound, Standing}
 use Rattle.image.specs.declared.nodes.Node.{Node}
 use Rattle.image.specs.declared.nodes.Node.the-variants.{Plain, Bus as Block, Once, Sequence, Branch, Loop}
 use Rattle.image.specs.declared.Outline.{Outline}
 use Rattle.image.specs.declared.Verdict.the-variants.{Accepted}
 use Rattle.image.proofs.Lists.{words-some, is-listed}
 use Rattle.image.proofs.Passing.{few, fewer, inside}
-use Rattle.image.proofs.Kept.{node-fine, first-fine, starts-fine}
+use Rattle.image.proofs.Kept.{node-fine, first-fine, starts-count, starts-fine}
 use Rattle.schedule.proofs.Sayings.{said-lawful, said-small}
 use Rattle.image.proofs.Levels.{falls}
 use Rattle.image.proofs.Fetches.{lines-few, no-lines}
@@ -36,51 +36,48 @@ module _ (s : List ℕ) (t : Outline) (a : Accepting s t) where
   pub ranged-kept : Ranged s
   ranged-kept = first-fine s (good 0 (omega arith))
 
-  pub starts-kept : Starts s (t .starts) (said s .period)
+  pub starts-kept : Starts s (bodyAt s 1) (t .starts) (said s .period)
   starts-kept = rw (a .starts) (starts-fine s (good 1 (omega arith)))
+
+  pub count-kept : (1 ≤ t .starts) × (t .starts ≤ 256)
+  count-kept = rw (a .starts) (starts-count s (good 1 (omega arith)))
 
   pub node-kept : (k : ℕ) → k < t .nodes → Fine s k (nodeOf s (fieldAt s (k + 2)))
   node-kept k l = node-fine s k (good (k + 2) (omega arith))
 
-  pub sound : (places : List ℕ) → Placed s (t .nodes + 2) places → Sound s t places
+  pub sound : (places : List ℕ) → ((k : ℕ) → k < t .nodes → getD places k 0 ≡ fieldAt s (k + 2)) → Sound s t places
   sound places p =
       record {
-        period-is = a .period;
+        accepting = a;
         ranged = ranged-kept;
-        starts-is = a .starts;
+        starts-some = count-kept .0;
+        starts-few = count-kept .1;
         starts = starts-kept;
         some = omega (arith, a .last);
         few = omega (arith, few s (t .nodes + 2) (a .complete .passed));
-        last = a .last;
-        complete = a .complete;
-        placed = λ k l. p k (omega arith);
+        placed = p;
         inside = λ k l. inside s (k + 2) (fewer s (k + 2) (t .nodes + 2) (omega arith) (a .complete .passed));
         fine = node-kept;
-        shallow = a .shallow;
-        short = a .short;
-        lines-is = a .lines;
         lines-few = rw (a .lines) (lines-few s (t .nodes) (a .complete .passed));
-        sets-is = a .sets;
-        narrow = rw (a .period) (a .narrow);
       }
 
 -- the ranges of a node's row are those that the theorem asks for
 in-range : (s : List ℕ) (own : ℕ) (x : Node) → Fine s own x → InRange (said s) (meant s x)
 unfolding meant Fine
 in-range s own (Plain p) f = (f .order, f .most)
-in-range s own (Block k) f = (f .0, f .1, f .2)
-in-range s own (Once x) f = (f .1, f .2, f .3, f .4)
+in-range s own (Block k) f = (f .some, f .order, f .most)
+in-range s own (Once x) f = (f .access .some, f .access .order, f .access .most, f .hit-most)
 in-range s own (Sequence c) f = tt
 in-range s own (Branch c) f = words-some s (c .place) (c .count) (omega (arith, f .0))
-in-range s own (Loop l) f = f .0
+in-range s own (Loop l) f = f .0 .order
 
 range-at : (s : List ℕ) (n : ℕ) → Fine s n (nodeOf s (fieldAt s (n + 2))) → InRange (said s) (nodeAt s n)
 unfolding nodeAt
 range-at s n f = in-range s n (nodeOf s (fieldAt s (n + 2))) f
 
 -- the first start offset is one
-first : (s : List ℕ) (n : ℕ) → n ≡ lengthAt s 1 → Starts s n (said s .period) → (o : ℕ) × (o < said s .period) × (isStart (startsOf s) o ≡ true)
-first s n e u = (byteAt s (bodyAt s 1 + 0), u .low 0 (omega (arith, u .some)), is-listed s (bodyAt s 1) (lengthAt s 1) 0 (omega (arith, u .some)))
+first : (s : List ℕ) (n : ℕ) → n ≡ lengthAt s 1 → 1 ≤ n → Starts s (bodyAt s 1) n (said s .period) → (o : ℕ) × (o < said s .period) × (isStart (startsOf s) o ≡ true)
+first s n e some u = (byteAt s (bodyAt s 1 + 0), u .low 0 (omega arith), is-listed s (bodyAt s 1) (lengthAt s 1) 0 (omega arith))
 
 -- the task that an accepted image says is one of the theorem's
 pub accepted : (s : List ℕ) (t : Outline) → judged s ≡ Accepted t → ValidTask (taskOf s t)
@@ -91,14 +88,14 @@ accepted s t e =
     record {
       lawful = said-lawful s r;
       small = let (period, most) = said-small s r in omega arith;
-      start = first s (t .starts) (a .starts) (starts-kept s t a);
+      start = first s (t .starts) (a .starts) (count-kept s t a .0) (starts-kept s t a);
       falls = falls s (t .entry) p;
       ranges = λ n l. range-at s n (node-kept s t a n (omega (arith, a .last)));
     }
 
 -- node k of a sound task stands at its place, so `tree-here` and `fine-here` of proofs/Levels.antt say what it is
 pub standing : (s : List ℕ) (t : Outline) (places : List ℕ) → Sound s t places → (k : ℕ) → k < t .nodes → Standing s k (getD places k 0)
-standing s t places h k l = record { passed = fewer s (k + 3) (t .nodes + 2) (omega arith) (h .complete .passed); place = h .placed k l }
+standing s t places h k l = record { passed = fewer s (k + 3) (t .nodes + 2) (omega arith) (h .accepting .complete .passed); place = h .placed k l }
 
 -- of an image of no lines the published exit set has exactly the offsets at which runs end
 pub unlined-exits : (s : List ℕ) (t : Outline) → judged s ≡ Accepted t → t .lines ≡ 0

@@ -77,7 +77,7 @@ module _ (s : List ℕ) (k : Walk) (places : List ℕ) (w : Walkable s k places)
   -- the bus and the task have the same period
   pub period-same : k .bus .period ≡ k .outline .period
   unfolding owning
-  period-same = w .same .period ∙ sym (w .sound .period-is)
+  period-same = w .same .period ∙ sym (w .sound .accepting .period)
 
   -- the longest access is the one that the image says
   most-is : k .bus .most ≡ said s .most
@@ -88,7 +88,7 @@ module _ (s : List ℕ) (k : Walk) (places : List ℕ) (w : Walkable s k places)
     valid-at = rw (w .same .most) (node-valid (taskOf s (k .outline)) (w .accepted) n (omega arith))
 
     here : Standing s n (getD places n 0)
-    here = standing s (k .outline) places (w .sound) n (omega (arith, w .sound .last))
+    here = standing s (k .outline) places (w .sound) n (omega (arith, w .sound .accepting .last))
 
     pub node-place : (getD places n 0 ≤ length s) × (n < 256)
     node-place = (inside-here s n _ here, few-here s n _ here)
@@ -105,7 +105,7 @@ module _ (s : List ℕ) (k : Walk) (places : List ℕ) (w : Walkable s k places)
     unfolding meant treeBy Fine
     as-block b e =
         let f = fine-here s n _ here (Block b) e in
-        (tree-here s n _ here (Block b) e, f .0, f .1, omega (arith, f .2, most-is), f .3)
+        (tree-here s n _ here (Block b) e, f .some, f .order, omega (arith, f .most, most-is), f .byte)
 
     pub as-once : (x : OnceNumbers) → nodeOf s (getD places n 0) ≡ Once x
         → (treeAt s n ≡ Tree.once (x .line) (x .lowest) (x .highest) (x .hit)) × (1 ≤ x .lowest) × (x .lowest ≤ x .highest)
@@ -113,8 +113,8 @@ module _ (s : List ℕ) (k : Walk) (places : List ℕ) (w : Walkable s k places)
     unfolding meant treeBy Fine
     as-once x e =
         let f = fine-here s n _ here (Once x) e in
-        let l : x .line + 1 ≤ k .outline .lines = rw (w .sound .lines-is, ← ap nodeLines (node-here s n _ here (Once x) e)) (line-below s n (k .outline .nodes) (omega (arith, w .sound .last))) in
-        (tree-here s n _ here (Once x) e, f .1, f .2, omega (arith, f .3, most-is), f .4, omega arith, f .5)
+        let l : x .line + 1 ≤ k .outline .lines = rw (w .sound .accepting .lines, ← ap nodeLines (node-here s n _ here (Once x) e)) (line-below s n (k .outline .nodes) (omega (arith, w .sound .accepting .last))) in
+        (tree-here s n _ here (Once x) e, f .access .some, f .access .order, omega (arith, f .access .most, most-is), f .hit-most, omega arith, f .access .byte)
 
     pub as-sequence : (c : Children) → nodeOf s (getD places n 0) ≡ Sequence c
         → (treeAt s n ≡ Tree.sequence (childTrees s (c .place) (c .count))) × Named s (c .place) (c .count) n
@@ -133,4 +133,4 @@ module _ (s : List ℕ) (k : Walk) (places : List ℕ) (w : Walkable s k places)
     pub as-loop : (l : LoopNumbers) → nodeOf s (getD places n 0) ≡ Loop l
         → (treeAt s n ≡ Tree.loop (l .least) (l .greatest) (treeAt s (l .body))) × (l .body < n) × (l .least ≤ l .greatest) × (l .greatest ≤ 10000)
     unfolding meant treeBy Fine
-    as-loop l e = let f = fine-here s n _ here (Loop l) e in (tree-here s n _ here (Loop l) e, f .2, f .0, f .1)
+    as-loop l e = let f = fine-here s n _ here (Loop l) e in (tree-here s n _ here (Loop l) e, f .1, f .0 .order, f .0 .most)

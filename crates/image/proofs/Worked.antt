@@ -8,7 +8,7 @@ use Rattle.runs.specs.Lines.{power}
 use Rattle.runs.specs.Nodes.{trees, treeBy, treeTo, tree, depth, visits, linesTo}
 use Rattle.bytes.specs.Bytes.{wordAt, words}
 use Rattle.schedule.specs.Said.{busOk, turnsAt, turnsOk, named, scheduleOk, said}
-use Rattle.image.specs.Fields.{tagOk, lengthOk, startsOk, plainOk, accessOk, blockOk, onceOk, loopOk, valueOk, below, childrenOk, fieldOf}
+use Rattle.image.specs.Fields.{tagOk, nodeLengthOk, lengthOk, startsOk, plainOk, accessOk, blockOk, onceOk, loopOk, nodeValueOk, valueOk, below, childrenOk, fieldOf}
 use Rattle.image.specs.Nodes.{fieldAt, nodeFrom, meant, nodeAt}
 use Rattle.image.specs.Judged.{scanFrom, scan, wholeOf, judged, refused, outcome}
 use Rattle.image.specs.declared.Verdict.the-variants.{Accepted}
@@ -28,21 +28,21 @@ front = 1 ∷ 0 ∷ 3 ∷ 2 ∷ 5 ∷ 0 ∷ 2 ∷ 0 ∷ 2 ∷ 3 ∷ 5 ∷ 4 ∷ 
 
 twice : judged (front ++ 5 ∷ 0 ∷ 4 ∷ 0 ∷ 0 ∷ 0 ∷ 0 ∷ [])
     ≡ Accepted (record { period = 10; starts = 2; lines = 0; sets = 1; nodes = 2; entry = 1 })
-unfolding wordAt words tagOk lengthOk busOk startsOk plainOk accessOk blockOk onceOk loopOk valueOk below childrenOk fieldOf said equalSlots fieldAt nodeFrom meant nodeAt trees treeBy treeTo tree depth visits power linesTo scanFrom scan wholeOf judged
+unfolding wordAt words tagOk nodeLengthOk lengthOk busOk startsOk plainOk accessOk blockOk onceOk loopOk nodeValueOk valueOk below childrenOk fieldOf said equalSlots fieldAt nodeFrom meant nodeAt trees treeBy treeTo tree depth visits power linesTo scanFrom scan wholeOf judged
 twice = refl
 
 -- "16 cores × slot 16 is accepted, 16 × 17 gives 5"; the first ends after its bus.
 square : outcome (1 ∷ 0 ∷ 3 ∷ 16 ∷ 16 ∷ 0 ∷ []) ≡ refused 7 "unfinished" 6
-unfolding wordAt tagOk lengthOk busOk valueOk childrenOk fieldOf said scanFrom scan wholeOf judged
+unfolding wordAt tagOk nodeLengthOk lengthOk busOk nodeValueOk valueOk childrenOk fieldOf said scanFrom scan wholeOf judged
 square = refl
 
 wide : outcome (1 ∷ 0 ∷ 3 ∷ 16 ∷ 17 ∷ 0 ∷ []) ≡ refused 5 "value" 0
-unfolding wordAt tagOk lengthOk busOk valueOk fieldOf scanFrom scan wholeOf judged
+unfolding wordAt tagOk nodeLengthOk lengthOk busOk nodeValueOk valueOk fieldOf scanFrom scan wholeOf judged
 wide = refl
 
 -- a child equal to the node's own number gives 6
 self : outcome (front ++ 5 ∷ 0 ∷ 2 ∷ 0 ∷ 1 ∷ []) ≡ refused 6 "forward" 17
-unfolding wordAt tagOk lengthOk busOk startsOk plainOk accessOk blockOk onceOk loopOk valueOk below childrenOk fieldOf said equalSlots scanFrom scan wholeOf judged
+unfolding wordAt tagOk nodeLengthOk lengthOk busOk startsOk plainOk accessOk blockOk onceOk loopOk nodeValueOk valueOk below childrenOk fieldOf said equalSlots scanFrom scan wholeOf judged
 self = refl
 
 -- "A loop of 10,000 over a block, inside a loop of 9: 90,010 visits, accepted. Inside a loop of 10: 100,011, gives 9."
@@ -50,21 +50,21 @@ abbrev loops : ℕ → List ℕ
 loops n = front ++ 7 ∷ 0 ∷ 6 ∷ 0 ∷ 0 ∷ 39 ∷ 16 ∷ 0 ∷ 0 ∷ 7 ∷ 0 ∷ 6 ∷ 0 ∷ 0 ∷ 0 ∷ n ∷ 0 ∷ 1 ∷ []
 
 nine : judged (loops 9) ≡ Accepted (record { period = 10; starts = 2; lines = 0; sets = 1; nodes = 3; entry = 2 })
-unfolding wordAt words tagOk lengthOk busOk startsOk plainOk accessOk blockOk onceOk loopOk valueOk below childrenOk fieldOf said equalSlots fieldAt nodeFrom meant nodeAt trees treeBy treeTo tree depth visits power linesTo scanFrom scan wholeOf judged
+unfolding wordAt words tagOk nodeLengthOk lengthOk busOk startsOk plainOk accessOk blockOk onceOk loopOk nodeValueOk valueOk below childrenOk fieldOf said equalSlots fieldAt nodeFrom meant nodeAt trees treeBy treeTo tree depth visits power linesTo scanFrom scan wholeOf judged
 nine = refl
 
 ten : outcome (loops 10) ≡ refused 9 "long" 35
-unfolding wordAt words tagOk lengthOk busOk startsOk plainOk accessOk blockOk onceOk loopOk valueOk below childrenOk fieldOf said equalSlots fieldAt nodeFrom meant nodeAt trees treeBy treeTo tree depth visits power linesTo scanFrom scan wholeOf judged
+unfolding wordAt words tagOk nodeLengthOk lengthOk busOk startsOk plainOk accessOk blockOk onceOk loopOk nodeValueOk valueOk below childrenOk fieldOf said equalSlots fieldAt nodeFrom meant nodeAt trees treeBy treeTo tree depth visits power linesTo scanFrom scan wholeOf judged
 ten = refl
 
 -- W9: a block with line 1 gives two lines, so four sets; with line 2 a period of 256 gives 256 × 8 places, which is 18.
 fetched : judged (front ++ 10 ∷ 0 ∷ 5 ∷ 1 ∷ 2 ∷ 3 ∷ 0 ∷ 9 ∷ [])
     ≡ Accepted (record { period = 10; starts = 2; lines = 2; sets = 4; nodes = 2; entry = 1 })
-unfolding wordAt words tagOk lengthOk busOk startsOk plainOk accessOk blockOk onceOk loopOk valueOk below childrenOk fieldOf said equalSlots fieldAt nodeFrom meant nodeAt trees treeBy treeTo tree depth visits power linesTo scanFrom scan wholeOf judged
+unfolding wordAt words tagOk nodeLengthOk lengthOk busOk startsOk plainOk accessOk blockOk onceOk loopOk nodeValueOk valueOk below childrenOk fieldOf said equalSlots fieldAt nodeFrom meant nodeAt trees treeBy treeTo tree depth visits power linesTo scanFrom scan wholeOf judged
 fetched = refl
 
 eighteen : outcome (1 ∷ 0 ∷ 3 ∷ 2 ∷ 128 ∷ 0 ∷ 2 ∷ 0 ∷ 1 ∷ 0 ∷ 10 ∷ 0 ∷ 5 ∷ 2 ∷ 1 ∷ 1 ∷ 0 ∷ 1 ∷ []) ≡ refused 18 "lines" 18
-unfolding wordAt words tagOk lengthOk busOk startsOk plainOk accessOk blockOk onceOk loopOk valueOk below childrenOk fieldOf said equalSlots fieldAt nodeFrom meant nodeAt trees treeBy treeTo tree depth visits power linesTo scanFrom scan wholeOf judged
+unfolding wordAt words tagOk nodeLengthOk lengthOk busOk startsOk plainOk accessOk blockOk onceOk loopOk nodeValueOk valueOk below childrenOk fieldOf said equalSlots fieldAt nodeFrom meant nodeAt trees treeBy treeTo tree depth visits power linesTo scanFrom scan wholeOf judged
 eighteen = refl
 
 -- W5: core 0 has slots of 2, 2 and 1 in a period of 10, of which the last joins the first: an access of 3 cycles is accepted, one of 4 gives 5.
@@ -72,11 +72,11 @@ abbrev round : ℕ → List ℕ
 round e = 9 ∷ 0 ∷ 11 ∷ 0 ∷ 0 ∷ 2 ∷ 1 ∷ 3 ∷ 0 ∷ 2 ∷ 1 ∷ 2 ∷ 0 ∷ 1 ∷ 2 ∷ 0 ∷ 1 ∷ 9 ∷ 4 ∷ 0 ∷ 3 ∷ 2 ∷ e ∷ e ∷ []
 
 three : judged (round 3) ≡ Accepted (record { period = 10; starts = 1; lines = 0; sets = 1; nodes = 1; entry = 0 })
-unfolding wordAt words tagOk lengthOk turnsAt turnsOk named scheduleOk total owns any lastOf ownsNext owning startsOk accessOk blockOk valueOk below childrenOk fieldOf said fieldAt nodeFrom meant nodeAt trees treeBy treeTo tree depth visits power linesTo scanFrom scan wholeOf judged
+unfolding wordAt words tagOk nodeLengthOk lengthOk turnsAt turnsOk named scheduleOk total owns any lastOf ownsNext owning startsOk accessOk blockOk nodeValueOk valueOk below childrenOk fieldOf said fieldAt nodeFrom meant nodeAt trees treeBy treeTo tree depth visits power linesTo scanFrom scan wholeOf judged
 three = refl
 
 four : outcome (round 4) ≡ refused 5 "value" 18
-unfolding wordAt tagOk lengthOk turnsAt turnsOk named scheduleOk total owns any lastOf ownsNext owning startsOk accessOk blockOk valueOk below childrenOk fieldOf said scanFrom scan wholeOf judged
+unfolding wordAt tagOk nodeLengthOk lengthOk turnsAt turnsOk named scheduleOk total owns any lastOf ownsNext owning startsOk accessOk blockOk nodeValueOk valueOk below childrenOk fieldOf said scanFrom scan wholeOf judged
 four = refl
 
 -- a sum of 256 is accepted, one of 257 gives 5, and so does an analysed core without a pair; each ends after its bus
@@ -84,13 +84,13 @@ abbrev pair : ℕ → ℕ → List ℕ
 pair core last = 9 ∷ 0 ∷ 7 ∷ core ∷ 0 ∷ 128 ∷ 15 ∷ 127 ∷ 0 ∷ last ∷ []
 
 sum-256 : outcome (pair 15 1) ≡ refused 7 "unfinished" 10
-unfolding wordAt tagOk lengthOk turnsAt turnsOk named scheduleOk total valueOk childrenOk fieldOf scanFrom scan wholeOf judged
+unfolding wordAt tagOk nodeLengthOk lengthOk turnsAt turnsOk named scheduleOk total nodeValueOk valueOk childrenOk fieldOf scanFrom scan wholeOf judged
 sum-256 = refl
 
 sum-257 : outcome (pair 15 2) ≡ refused 5 "value" 0
-unfolding wordAt tagOk lengthOk turnsAt turnsOk named scheduleOk total valueOk fieldOf scanFrom scan wholeOf judged
+unfolding wordAt tagOk nodeLengthOk lengthOk turnsAt turnsOk named scheduleOk total nodeValueOk valueOk fieldOf scanFrom scan wholeOf judged
 sum-257 = refl
 
 no-pair : outcome (pair 1 1) ≡ refused 5 "value" 0
-unfolding wordAt tagOk lengthOk turnsAt turnsOk named scheduleOk total valueOk fieldOf scanFrom scan wholeOf judged
+unfolding wordAt tagOk nodeLengthOk lengthOk turnsAt turnsOk named scheduleOk total nodeValueOk valueOk fieldOf scanFrom scan wholeOf judged
 no-pair = refl

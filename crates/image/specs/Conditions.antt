@@ -2,15 +2,14 @@
 -- place. No order of steps is in it: each condition names what comes before it. proofs/Reasons.antt proves that the verdict is a
 -- refusal for r at a place if and only if `Condition s r place`. Definitions only.
 use mathlib.Core.Path.{_≡_}
-use mathlib.Core.Bool.{true, false}
 use mathlib.Core.List.{List}
-use Prim.Native.Nat.{ℕ, suc, _+_, _*_, _≤_, _<_}
+use Prim.Native.Nat.{ℕ, suc, _+_, _-_, _*_, _≤_, _<_}
 use lib.ListN.{length}
 use Rattle.runs.specs.Lines.{power}
 use Rattle.runs.specs.Nodes.{depth, visits}
 use Rattle.bytes.specs.Bytes.{byteAt, wordAt}
 use Rattle.schedule.specs.Said.{said}
-use Rattle.image.specs.Fields.{tagOk, lengthOk, valueOk, childrenOk}
+use Rattle.image.specs.Rules.{TagRule, LengthRule, ValueRule, ChildRule}
 use Rattle.image.specs.Nodes.{fieldAt, linesOf, treeAt}
 use Rattle.image.specs.declared.Outline.{Outline}
 use Rattle.image.specs.declared.Refusal.{Refusal}
@@ -26,15 +25,29 @@ lengthAt s k = wordAt s (fieldAt s k + 1)
 abbrev pub bodyAt : List ℕ → ℕ → ℕ
 bodyAt s k = fieldAt s k + 3
 
--- none of 1 to 6 holds of it
-pub record GoodField (s : List ℕ) (k : ℕ) : Type 0 where
-  pub head : fieldAt s k + 3 ≤ length s
-  pub tag : tagOk k (tagAt s k) ≡ true
-  pub room : k < 258
-  pub len : lengthOk (tagAt s k) (lengthAt s k) ≡ true
-  pub body : bodyAt s k + lengthAt s k ≤ length s
-  pub value : valueOk s (tagAt s k) (bodyAt s k) (lengthAt s k) ≡ true
-  pub children : childrenOk s (tagAt s k) (bodyAt s k) (lengthAt s k) k ≡ true
+-- how far it has passed, in the order in which a field is judged: its head stands, its tag may stand there, it is no 257th node field, its length is in
+-- the tag's row, its body stands, and its numbers keep the row's rules
+abbrev pub UpToHead : List ℕ → ℕ → Type 0
+UpToHead s k = fieldAt s k + 3 ≤ length s
+
+abbrev pub UpToTag : List ℕ → ℕ → Type 0
+UpToTag s k = UpToHead s k × TagRule k (tagAt s k)
+
+abbrev pub UpToRoom : List ℕ → ℕ → Type 0
+UpToRoom s k = UpToTag s k × (k < 258)
+
+abbrev pub UpToLength : List ℕ → ℕ → Type 0
+UpToLength s k = UpToRoom s k × LengthRule (tagAt s k) (lengthAt s k)
+
+abbrev pub UpToBody : List ℕ → ℕ → Type 0
+UpToBody s k = UpToLength s k × (bodyAt s k + lengthAt s k ≤ length s)
+
+abbrev pub UpToValue : List ℕ → ℕ → Type 0
+UpToValue s k = UpToBody s k × ValueRule s (tagAt s k) (bodyAt s k) (lengthAt s k)
+
+-- none of 1 to 6 holds of it: its child numbers, where it has some, are below the node's own, which is k - 2
+abbrev pub GoodField : List ℕ → ℕ → Type 0
+GoodField s k = UpToValue s k × ChildRule s (tagAt s k) (bodyAt s k) (lengthAt s k) (k - 2)
 
 -- the n fields from the front are good; and they fill the image
 abbrev pub Passed : List ℕ → ℕ → Type 0
@@ -48,24 +61,17 @@ pub data Condition (s : List ℕ) : Refusal → ℕ → Type 0 where
   -- 1: "1 or 2 bytes left where a field's head should stand"
   head-cut : (k : ℕ) → Passed s k → fieldAt s k < length s → length s < fieldAt s k + 3 → Condition s Cut (fieldAt s k)
   -- 2: "the first field's tag is not 1, the second's not 2, or a later one's not 3 to 7", nor 9 of W5 and 10 of W9
-  wrong-tag : (k : ℕ) → Passed s k → fieldAt s k + 3 ≤ length s → tagOk k (tagAt s k) ≡ false → Condition s Tag (fieldAt s k)
+  wrong-tag : (k : ℕ) → Passed s k → UpToHead s k → (TagRule k (tagAt s k) → ⊥) → Condition s Tag (fieldAt s k)
   -- 3: "a 257th node field", which has 258 fields before it
-  one-more : Passed s 258 → fieldAt s 258 + 3 ≤ length s → tagOk 258 (tagAt s 258) ≡ true → Condition s Full (fieldAt s 258)
+  one-more : Passed s 258 → UpToTag s 258 → Condition s Full (fieldAt s 258)
   -- 4: "body length not in the tag's row"
-  wrong-length : (k : ℕ) → Passed s k → fieldAt s k + 3 ≤ length s → tagOk k (tagAt s k) ≡ true → k < 258
-      → lengthOk (tagAt s k) (lengthAt s k) ≡ false → Condition s Length (fieldAt s k)
+  wrong-length : (k : ℕ) → Passed s k → UpToRoom s k → (LengthRule (tagAt s k) (lengthAt s k) → ⊥) → Condition s Length (fieldAt s k)
   -- 1: "fewer bytes left than its length for its body"
-  body-cut : (k : ℕ) → Passed s k → fieldAt s k + 3 ≤ length s → tagOk k (tagAt s k) ≡ true → k < 258
-      → lengthOk (tagAt s k) (lengthAt s k) ≡ true → length s < bodyAt s k + lengthAt s k → Condition s Cut (fieldAt s k)
+  body-cut : (k : ℕ) → Passed s k → UpToLength s k → length s < bodyAt s k + lengthAt s k → Condition s Cut (fieldAt s k)
   -- 5: "a number that breaks its row's rules, order and products included; child numbers are left to 6"
-  wrong-value : (k : ℕ) → Passed s k → fieldAt s k + 3 ≤ length s → tagOk k (tagAt s k) ≡ true → k < 258
-      → lengthOk (tagAt s k) (lengthAt s k) ≡ true → bodyAt s k + lengthAt s k ≤ length s
-      → valueOk s (tagAt s k) (bodyAt s k) (lengthAt s k) ≡ false → Condition s Value (fieldAt s k)
+  wrong-value : (k : ℕ) → Passed s k → UpToBody s k → (ValueRule s (tagAt s k) (bodyAt s k) (lengthAt s k) → ⊥) → Condition s Value (fieldAt s k)
   -- 6: "a child number not below the node's own"
-  not-below : (k : ℕ) → Passed s k → fieldAt s k + 3 ≤ length s → tagOk k (tagAt s k) ≡ true → k < 258
-      → lengthOk (tagAt s k) (lengthAt s k) ≡ true → bodyAt s k + lengthAt s k ≤ length s
-      → valueOk s (tagAt s k) (bodyAt s k) (lengthAt s k) ≡ true
-      → childrenOk s (tagAt s k) (bodyAt s k) (lengthAt s k) k ≡ false → Condition s Forward (fieldAt s k)
+  not-below : (k : ℕ) → Passed s k → UpToValue s k → (ChildRule s (tagAt s k) (bodyAt s k) (lengthAt s k) (k - 2) → ⊥) → Condition s Forward (fieldAt s k)
   -- 7: "the image ends, between fields, before a node field"
   no-node : (n : ℕ) → Complete s n → n < 3 → Condition s Unfinished (length s)
   -- 8: "entry's depth above 24"; the entry of an image of n + 3 fields is node n
@@ -86,7 +92,7 @@ pub record Accepting (s : List ℕ) (t : Outline) : Type 0 where
   pub starts : t .starts ≡ lengthAt s 1
   pub lines : t .lines ≡ linesOf s (t .nodes)
   pub sets : t .sets ≡ power (t .lines)
-  pub narrow : said s .period * t .sets ≤ 1024
+  pub narrow : t .period * t .sets ≤ 1024
 
 -- the longest valid image: 68 bytes for a bus of 32 pairs (W5), 259 for the starts, 8 for node 0, a block of tag 10 (W9), and 35 for each of 255 more nodes
 -- (`longest` of proofs/Longest.antt)

@@ -1,6 +1,6 @@
 -- One field of an image: the rows of the table in "The task image" of document 01, and numbers 1 to 6 of "When no figure is given".
 -- Definitions only.
-use mathlib.Core.Bool.{Bool, true, false, not, _&&_}
+use mathlib.Core.Bool.{Bool, true, false, cond, not, _&&_}
 use mathlib.Core.List.{List}
 use Prim.Native.Nat.{ℕ, zero, suc, _+_, _-_, _/_, _%_}
 use lib.ListN.{length}
@@ -16,28 +16,27 @@ use Rattle.image.specs.declared.fields.Judgement.the-variants.{Good, Bad
 abbrev pub parityWithin : ℕ → ℕ → ℕ → ℕ → Bool
 parityWithin odd low high n = within low high n && eqb (n % 2) odd
 
--- a where the test holds, and else b
-abbrev pub choose : Bool → Bool → Bool → Bool
-choose true a b = a
-choose false a b = b
-
 -- "Field 1 comes first, field 2 second, then 1 to 256 node fields (tags 3 to 7)", with W5 tag 9 "in place of tag 1" and with W9 tag 10: the tag of the
 -- field with `index` fields before it
 unfoldable pub tagOk : ℕ → ℕ → Bool
-tagOk index tag = choose (eqb index 0) (choose (eqb tag 9) true (eqb tag 1)) (choose (eqb index 1) (eqb tag 2) (choose (eqb tag 10) true (within 3 7 tag)))
+tagOk index tag = cond (eqb index 0) (cond (eqb tag 9) true (eqb tag 1)) (cond (eqb index 1) (eqb tag 2) (cond (eqb tag 10) true (within 3 7 tag)))
 
--- "Body length", row by row
+-- "Body length", row by row: of node tags, and of all
+unfoldable pub nodeLengthOk : ℕ → ℕ → Bool
+nodeLengthOk tag n =
+    cond (eqb tag 3) (eqb n 4)
+    (cond (eqb tag 4) (eqb n 3)
+    (cond (eqb tag 5) (parityWithin 0 2 32 n)
+    (cond (eqb tag 6) (parityWithin 0 4 16 n)
+    (cond (eqb tag 7) (eqb n 6) false))))
+
 unfoldable pub lengthOk : ℕ → ℕ → Bool
 lengthOk tag n =
-    choose (eqb tag 1) (eqb n 3)
-    (choose (eqb tag 2) (within 1 256 n)
-    (choose (eqb tag 3) (eqb n 4)
-    (choose (eqb tag 4) (eqb n 3)
-    (choose (eqb tag 5) (parityWithin 0 2 32 n)
-    (choose (eqb tag 6) (parityWithin 0 4 16 n)
-    (choose (eqb tag 7) (eqb n 6)
-    (choose (eqb tag 10) (eqb n 5)
-    (choose (eqb tag 9) (parityWithin 1 3 65 n) false))))))))
+    cond (eqb tag 1) (eqb n 3)
+    (cond (eqb tag 2) (within 1 256 n)
+    (cond (within 3 7 tag) (nodeLengthOk tag n)
+    (cond (eqb tag 9) (parityWithin 1 3 65 n)
+    (cond (eqb tag 10) (eqb n 5) false))))
 
 -- row 2: "start offsets, strictly ascending, each below P": the n bytes from a place on, the first of them at least `least`
 unfoldable pub startsOk : List ℕ → ℕ → ℕ → ℕ → ℕ → Bool
@@ -65,16 +64,21 @@ loopOk least greatest = leb least greatest && leb greatest 10000
 unfoldable pub onceOk : ℕ → ℕ → ℕ → ℕ → ℕ → Bool
 onceOk line lowest highest hit most = leb line 3 && (leb hit 65535 && accessOk lowest highest most)
 
--- the row's rules for the body of n bytes that stands at a place; rows 5 and 6 have child numbers alone, "left to 6"
+-- the rules for the body of n bytes that stands at a place: of node tags, where rows 5 and 6 have child numbers alone, "left to 6", and of all
+unfoldable pub nodeValueOk : List ℕ → ℕ → ℕ → Bool
+nodeValueOk s tag body =
+    cond (eqb tag 3) (plainOk (wordAt s body) (wordAt s (body + 2)))
+    (cond (eqb tag 4) (blockOk (byteAt s body) (byteAt s (body + 1)) (byteAt s (body + 2)) (said s .most))
+    (cond (within 5 6 tag) true
+    (cond (eqb tag 7) (loopOk (wordAt s body) (wordAt s (body + 2))) false)))
+
 unfoldable pub valueOk : List ℕ → ℕ → ℕ → ℕ → Bool
 valueOk s tag body n =
-    choose (eqb tag 1) (busOk (byteAt s body) (byteAt s (body + 1)) (byteAt s (body + 2)))
-    (choose (eqb tag 2) (startsOk s body n 0 (said s .period))
-    (choose (eqb tag 3) (plainOk (wordAt s body) (wordAt s (body + 2)))
-    (choose (eqb tag 4) (blockOk (byteAt s body) (byteAt s (body + 1)) (byteAt s (body + 2)) (said s .most))
-    (choose (eqb tag 7) (loopOk (wordAt s body) (wordAt s (body + 2)))
-    (choose (eqb tag 10) (onceOk (byteAt s body) (byteAt s (body + 1)) (byteAt s (body + 2)) (wordAt s (body + 3)) (said s .most))
-    (choose (eqb tag 9) (scheduleOk (scheduleOf s body n)) true))))))
+    cond (eqb tag 1) (busOk (byteAt s body) (byteAt s (body + 1)) (byteAt s (body + 2)))
+    (cond (eqb tag 2) (startsOk s body n 0 (said s .period))
+    (cond (within 3 7 tag) (nodeValueOk s tag body)
+    (cond (eqb tag 9) (scheduleOk (scheduleOf s body n))
+    (cond (eqb tag 10) (onceOk (byteAt s body) (byteAt s (body + 1)) (byteAt s (body + 2)) (wordAt s (body + 3)) (said s .most)) false))))
 
 -- the n child numbers from a place on are each below that of the node naming them; node i is the field with i + 2 fields before it
 unfoldable pub below : List ℕ → ℕ → ℕ → ℕ → Bool
@@ -84,23 +88,18 @@ below s place (suc n) index = ltb (wordAt s place + 2) index && below s (place +
 -- rows 5, 6 and 7: the body is child numbers, and a loop's third number is one
 unfoldable pub childrenOk : List ℕ → ℕ → ℕ → ℕ → ℕ → Bool
 childrenOk s tag body n index =
-    choose (within 5 6 tag) (below s body (n / 2) index)
-    (choose (eqb tag 7) (below s (body + 4) 1 index) true)
-
--- refused for r where the test holds, and else as the rest says
-abbrev pub refuse : Bool → Refusal → Judgement → Judgement
-refuse true r rest = Bad r
-refuse false r rest = rest
+    cond (within 5 6 tag) (below s body (n / 2) index)
+    (cond (eqb tag 7) (below s (body + 4) 1 index) true)
 
 -- "Within one the order is: head cut, 2, 3, 4, body cut, 5, 6." The field at a place, `index` fields standing before it; a good
 -- one gives the place of the next. The node fields are those from index 2 on, so the 257th has index 258.
 unfoldable pub fieldOf : List ℕ → ℕ → ℕ → Judgement
 fieldOf s at index =
-    refuse (ltb (length s - at) 3) Cut
-    (refuse (not (tagOk index (byteAt s at))) Tag
-    (refuse (leb 258 index) Full
-    (refuse (not (lengthOk (byteAt s at) (wordAt s (at + 1)))) Length
-    (refuse (ltb (length s - at - 3) (wordAt s (at + 1))) Cut
-    (refuse (not (valueOk s (byteAt s at) (at + 3) (wordAt s (at + 1)))) Value
-    (refuse (not (childrenOk s (byteAt s at) (at + 3) (wordAt s (at + 1)) index)) Forward
+    cond (ltb (length s - at) 3) (Bad Cut)
+    (cond (not (tagOk index (byteAt s at))) (Bad Tag)
+    (cond (leb 258 index) (Bad Full)
+    (cond (not (lengthOk (byteAt s at) (wordAt s (at + 1)))) (Bad Length)
+    (cond (ltb (length s - at - 3) (wordAt s (at + 1))) (Bad Cut)
+    (cond (not (valueOk s (byteAt s at) (at + 3) (wordAt s (at + 1)))) (Bad Value)
+    (cond (not (childrenOk s (byteAt s at) (at + 3) (wordAt s (at + 1)) index)) (Bad Forward)
     (Good (at + 3 + wordAt s (at + 1)))))))))

@@ -2,7 +2,7 @@
 use mathlib.Core.Path.{_≡_}
 use mathlib.Core.List.{List}
 use Prim.Native.Nat.{ℕ, _+_, _*_, _≤_, _<_, min}
-use lib.ListN.{getD}
+use lib.ListN.{length, getD}
 use Rattle.runs.specs.Nodes.{depth, deepest, visits as visited, visitsAll}
 use Rattle.image.specs.Nodes.{fieldAt, treeAt, childTrees}
 use Rattle.image.specs.Judged.{scan}
@@ -10,9 +10,11 @@ use Rattle.image.specs.declared.weigh.Weight.{Weight}
 use Rattle.image.specs.declared.fields.End.{End}
 use Rattle.image.specs.declared.fields.End.the-variants.{Whole}
 
--- the place of each node of n fields
-abbrev pub Placed : List ℕ → ℕ → List ℕ → Type 0
-Placed s n places = (k : ℕ) → k + 2 < n → getD places k 0 ≡ fieldAt s (k + 2)
+-- the place of each node of n fields, in an array that is 0 behind them
+pub record Placed (s : List ℕ) (n : ℕ) (places : List ℕ) : Type 0 where
+  pub long : length places ≡ 256
+  pub each : (k : ℕ) → k + 2 < n → getD places k 0 ≡ fieldAt s (k + 2)
+  pub behind : (k : ℕ) → n ≤ k + 2 → getD places k 0 ≡ 0
 
 -- what a scan gives
 pub record Scanned (s : List ℕ) (end : End) (places : List ℕ) : Type 0 where

@@ -1,5 +1,5 @@
 -- The verdict on an image (document 01, "When no figure is given"): fields from the front, then 7, 8, 9 and 18. Definitions only.
-use mathlib.Core.Bool.{Bool, true, false}
+use mathlib.Core.Bool.{cond}
 use mathlib.Core.List.{List}
 use Prim.Native.Nat.{ℕ, zero, suc, _+_, _-_, _*_}
 use Prim.Native.String.{String}
@@ -57,10 +57,6 @@ wordOf Forbidden = "forbidden"
 wordOf Lines = "lines"
 wordOf Block = "block"
 
-abbrev pub pickEnd : Bool → End → End → End
-pickEnd true a b = a
-pickEnd false a b = b
-
 -- a field that is refused stops the scan at its place; a good one leads on to the next
 abbrev pub onField : ℕ → (ℕ → End) → Judgement → End
 onField at on (Good next) = on next
@@ -71,22 +67,18 @@ onField at on (Bad r) = Stopped r at
 unfoldable pub scanFrom : ℕ → List ℕ → ℕ → ℕ → End
 scanFrom zero s at index = Whole index
 scanFrom (suc fuel) s at index =
-    pickEnd (leb (length s) at) (Whole index) (onField at (λ next. scanFrom fuel s next (index + 1)) (fieldOf s at index))
+    cond (leb (length s) at) (Whole index) (onField at (λ next. scanFrom fuel s next (index + 1)) (fieldOf s at index))
 
 unfoldable pub scan : List ℕ → End
 scan s = scanFrom 259 s 0 0
 
-abbrev pub refuseAll : Bool → Refusal → ℕ → Verdict → Verdict
-refuseAll true r place rest = Refused r place
-refuseAll false r place rest = rest
-
 -- "Then 7, 8, 9", and with W9 18, of an image whose n fields are all good: n - 2 nodes, of which the last, number n - 3, is the entry
 unfoldable pub wholeOf : List ℕ → ℕ → Verdict
 wholeOf s n =
-    refuseAll (ltb n 3) Unfinished (length s)
-    (refuseAll (ltb 24 (depth (treeAt s (n - 3)))) Deep (length s)
-    (refuseAll (ltb 100000 (visits (treeAt s (n - 3)))) Long (length s)
-    (refuseAll (ltb 1024 (said s .period * power (linesOf s (n - 2)))) Lines (length s)
+    cond (ltb n 3) (Refused Unfinished (length s))
+    (cond (ltb 24 (depth (treeAt s (n - 3)))) (Refused Deep (length s))
+    (cond (ltb 100000 (visits (treeAt s (n - 3)))) (Refused Long (length s))
+    (cond (ltb 1024 (said s .period * power (linesOf s (n - 2)))) (Refused Lines (length s))
     (Accepted (record {
       period = said s .period;
       starts = wordAt s (fieldAt s 1 + 1);

@@ -1,3 +1,4 @@
+pub mod Rules
 pub mod Fields
 pub mod Nodes
 pub mod Judged

@@ -6,8 +6,9 @@ use Rattle.runs.specs.Bus.{SameBus}
 use Rattle.runs.specs.Exact.{ValidTask}
 use Rattle.bus.specs.Owning.{busMeant, Fit}
 use Rattle.schedule.specs.Said.{said}
+use Rattle.image.specs.Rules.{NamesBelow}
 use Rattle.image.specs.Nodes.{taskOf}
-use Rattle.image.specs.Promise.{NamesBelow, Sound}
+use Rattle.image.specs.Promise.{Sound}
 use Rattle.image.specs.declared.Walk.{Walk}
 
 -- what judging has shown of the image, its task and the places of its nodes; and the bus is the one that the image says

@@ -79,13 +79,20 @@ pub fn node_at(image: &[u8], at: usize) -> Node
             lowest: byte(image, body + 1),
             highest: byte(image, body + 2),
         }),
-        5 => Node::Sequence(Children {
-            place: body,
-            count: len / 2,
-        }),
-        6 => Node::Branch(Children {
-            place: body,
-            count: len / 2,
+        5..=6 => {
+            let children = Children {
+                place: body,
+                count: len / 2,
+            };
+            if tag == 5 {
+                return Node::Sequence(children);
+            }
+            Node::Branch(children)
+        },
+        7 => Node::Loop(Loop {
+            least: word(image, body),
+            greatest: word(image, body + 2),
+            body: word(image, body + 4),
         }),
         10 => Node::Once(Once {
             line: byte(image, body),
@@ -93,10 +100,9 @@ pub fn node_at(image: &[u8], at: usize) -> Node
             highest: byte(image, body + 2),
             hit: word(image, body + 3),
         }),
-        _ => Node::Loop(Loop {
-            least: word(image, body),
-            greatest: word(image, body + 2),
-            body: word(image, body + 4),
+        _ => Node::Plain(Plain {
+            lowest: 0,
+            highest: 0,
         }),
     }
 }

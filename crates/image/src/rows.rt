@@ -2,7 +2,7 @@
 ghost use mathlib.Core.Path.{_≡_};
 ghost use Prim.Native.Nat.{_+_, _*_, _<_};
 ghost use Rattle.schedule.specs.Said.{Ranged};
-ghost use Rattle.image.specs.Fields.{parityWithin, tagOk, lengthOk, startsOk, plainOk, accessOk, blockOk, onceOk, loopOk, valueOk, below, childrenOk};
+ghost use Rattle.image.specs.Fields.{parityWithin, tagOk, nodeLengthOk, lengthOk, startsOk, plainOk, accessOk, blockOk, onceOk, loopOk, nodeValueOk, valueOk, below, childrenOk};
 use bytes::byte;
 use bytes::word;
 use schedule::between;
@@ -41,19 +41,30 @@ pub fn tag_ok(index: usize, tag: usize) -> bool
     }
 }
 
+// Is a node body's length in the tag's row?
+fn node_length_ok(tag: usize, len: usize) -> bool
+    ensures { λ r. ⌜ r ≡ nodeLengthOk tag len ⌝ }
+{
+    match tag {
+        3 => len == 4,
+        4 => len == 3,
+        5 => parity_between(0, 2, 32, len),
+        6 => parity_between(0, 4, 16, len),
+        7 => len == 6,
+        _ => false,
+    }
+}
+
 // Is the body's length in the tag's row?
 pub fn length_ok(tag: usize, len: usize) -> bool
     ensures { λ r. ⌜ r ≡ lengthOk tag len ⌝ }
 {
     match tag {
-        1 | 4 => len == 3,
+        1 => len == 3,
         2 => between(1, 256, len),
-        3 => len == 4,
-        5 => parity_between(0, 2, 32, len),
-        6 => parity_between(0, 4, 16, len),
-        7 => len == 6,
-        10 => len == 5,
+        3..=7 => node_length_ok(tag, len),
         9 => parity_between(1, 3, 65, len),
+        10 => len == 5,
         _ => false,
     }
 }
@@ -138,6 +149,25 @@ fn loop_ok(least: usize, greatest: usize) -> bool
     greatest <= 10000
 }
 
+// Do a node body's numbers keep the rules of the tag's row? Child numbers are left to `children_ok`.
+fn node_value_ok(image: &[u8], tag: usize, body: usize) -> bool
+    requires { ⌜ (body + 6 < 18446744073709551615) × Ranged (now image) ⌝ }
+    ensures { λ r. ⌜ r ≡ nodeValueOk (now (image .entry)) tag body ⌝ }
+{
+    match tag {
+        3 => plain_ok(word(image, body), word(image, body + 2)),
+        4 => block_ok(
+            byte(image, body),
+            byte(image, body + 1),
+            byte(image, body + 2),
+            most_at(image),
+        ),
+        5..=6 => true,
+        7 => loop_ok(word(image, body), word(image, body + 2)),
+        _ => false,
+    }
+}
+
 // Do the body's numbers keep the rules of the tag's row? The body of `len` bytes stands at `body`.
 pub fn value_ok(image: &[u8], tag: usize, body: usize, len: usize) -> bool
     requires { ⌜ (body + len < 18446744073709551615) × (body + 6 < 18446744073709551615) × (¬ (tag ≡ 1) → ¬ (tag ≡ 9) → Ranged (now image)) ⌝ }
@@ -150,14 +180,8 @@ pub fn value_ok(image: &[u8], tag: usize, body: usize, len: usize) -> bool
             byte(image, body + 2),
         ),
         2 => starts_ok(image, body, len, period_at(image)),
-        3 => plain_ok(word(image, body), word(image, body + 2)),
-        4 => block_ok(
-            byte(image, body),
-            byte(image, body + 1),
-            byte(image, body + 2),
-            most_at(image),
-        ),
-        7 => loop_ok(word(image, body), word(image, body + 2)),
+        3..=7 => node_value_ok(image, tag, body),
+        9 => schedule_ok(image, body, len),
         10 => once_ok(
             byte(image, body),
             byte(image, body + 1),
@@ -165,8 +189,7 @@ pub fn value_ok(image: &[u8], tag: usize, body: usize, len: usize) -> bool
             word(image, body + 3),
             most_at(image),
         ),
-        9 => schedule_ok(image, body, len),
-        _ => true,
+        _ => false,
     }
 }
 

@@ -3,7 +3,8 @@
 ghost use mathlib.Core.Path.{_≡_};
 ghost use Prim.Native.Nat.{_+_, _-_, _*_, _≤_, _<_, min, max};
 ghost use Rattle.image.specs.Conditions.{Passed};
-ghost use Rattle.image.specs.Promise.{NamesBelow, Standing};
+ghost use Rattle.image.specs.Rules.{NamesBelow};
+ghost use Rattle.image.specs.Promise.{Standing};
 ghost use Rattle.image.specs.Inner.{Placed, Weighed, Together, Weighs};
 use crate::nodes::Node;
 use crate::nodes::node_at;

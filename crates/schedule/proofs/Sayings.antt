@@ -1,11 +1,11 @@
 -- What field 1 says, by its tag: the period, the longest access, and a bus of which the laws hold.
-use mathlib.Core.Path.{_≡_, sym, _∙_, ap, subst}
-use mathlib.Core.Bool.{true, cond, _&&_}
+use mathlib.Core.Path.{_≡_, refl, sym, _∙_, ap, subst}
+use mathlib.Core.Bool.{Bool, true, false, cond, _&&_, _||_}
 use mathlib.Core.Logic.{_⊎_, inl, inr, ⊎-elim}
 use mathlib.Core.List.{List, [], _∷_}
 use Prim.Native.Nat.{ℕ, _+_, _-_, _*_, _%_, _≤_, _<_}
 use native.Mathlib.Omega.{arith}
-use lib.Dec.{leb, ltb}
+use lib.Dec.{eqb, leb, ltb}
 use lib.ListN.{length}
 use borrow.Author.Tests.{ltb-true, leb-true, eq-eqb, ne-eqb, le-leb, lt-ltb, le-ltb}
 use Rattle.runs.specs.Bus.{Bus, First, Lawful, SameBus}
@@ -117,6 +117,26 @@ schedule-kept v few e =
     let p = both (turnsOk (v .turns)) (leb (total (v .turns)) 256 && named (v .core) (v .turns)) e in
     let q = both (leb (total (v .turns)) 256) (named (v .core) (v .turns)) (p .1) in
     record { turns = turns-kept (v .turns) (p .0); few = few; period-most = leb-true _ _ (q .0); named = named-kept (v .core) (v .turns) (q .1) }
+
+-- and the tests, from the rules
+kept-turns : (xs : List Turn) → Turns xs → turnsOk xs ≡ true
+unfolding turnsOk Turns
+kept-turns [] t = refl
+kept-turns (x ∷ xs) t = simp (le-leb (x .core) 15 (t .0), le-leb 1 (x .length) (t .1), le-leb (x .length) 128 (t .2), kept-turns xs (t .3))
+
+kept-named : (c : ℕ) (xs : List Turn) → Named c xs → named c xs ≡ true
+unfolding named Named
+kept-named c [] n = absurd n
+kept-named c (x ∷ xs) (inl e) = simp (eq-eqb (x .core) c e)
+kept-named c (x ∷ xs) (inr n) = or-true (eqb (x .core) c) (named c xs) (kept-named c xs n)
+  where
+    or-true : (a b : Bool) → b ≡ true → (a || b) ≡ true
+    or-true true b e = refl
+    or-true false b e = e
+
+pub kept-schedule : (v : Schedule) → Scheduled v → scheduleOk v ≡ true
+unfolding scheduleOk
+kept-schedule v h = simp (kept-turns (v .turns) (h .turns), le-leb (total (v .turns)) 256 (h .period-most), kept-named (v .core) (v .turns) (h .named))
 
 -- ---- an owned offset
 

@@ -33,7 +33,7 @@ unfolding Fine
 add-result c =
     let (n, here) = c .before .before .before .before .before .before .pre in
     let f = fine-here _ n _ here _ (sym (c .before .before .before .before .node-at .ensures) ∙ c .before .before .node .given .1) in
-    omega (arith, f .0)
+    omega (arith, f .line-most)
 
 enum-told-3 : tie.Need-enum-told-3
 enum-told-3 c = search needs

@@ -30,7 +30,7 @@ line-at-requires : tie.Need-line-at-requires Inv-loop μ-loop
 line-at-requires c κs =
     let start = c .before .before .before .before in
     let l = c .before .before .loop in
-    (l .n, record { passed = fewer _ (l .n + 3) (start .args .nodes + 2) (omega arith) (start .pre .0); place = start .pre .1 (l .n) (omega arith) })
+    (l .n, record { passed = fewer _ (l .n + 3) (start .args .nodes + 2) (omega arith) (start .pre .0); place = start .pre .1 .each (l .n) (omega arith) })
 
 larger-requires : tie.Need-larger-requires Inv-loop μ-loop
 larger-requires c κs = search needs
@@ -47,7 +47,7 @@ loop-again c =
     let start = c .before .before .before .before .before .before in
     let s = start .args .image .now in
     let l = c .before .before .before .before .loop in
-    let line = c .before .line-at .ensures ∙ ap (λ (at : ℕ). nodeLines (meant s (nodeOf s at))) (start .pre .1 (l .n) (omega arith)) in
+    let line = c .before .line-at .ensures ∙ ap (λ (at : ℕ). nodeLines (meant s (nodeOf s at))) (start .pre .1 .each (l .n) (omega arith)) in
     (omega arith, rw (add-one (l .n)) (c .larger .ensures ∙ ap₂ max (l .inv .1) line))
 
 returns : tie.Need-returns Inv-loop μ-loop

@@ -1,10 +1,10 @@
--- In each arm the tag says which row of `valueOk` holds, and the row's function says the rest.
+-- In each arm the tag says which row of `valueOk` holds, and the row's function says the rest; the node tags have theirs in `nodeValueOk`.
 use borrow.Author.Needs.{needs}
 use Rattle.image.proofs.rows.value_ok.Statement.{statement}
 use Rattle.image.proofs.rows.value_ok.Tie as tie
 use Rattle.image.specs.Fields.{valueOk}
 use mathlib.Core.Path.{sym}
-use borrow.Author.Tests.{ne-eqb}
+use borrow.Author.Tests.{ne-eqb, le-leb, lt-leb}
 use native.Mathlib.Omega.{arith}
 
 byte-requires : tie.Need-byte-requires
@@ -31,17 +31,8 @@ period-at-requires c κs = c .before .before .pre .2 (λ e. omega (arith, c .mat
 starts-ok-requires : tie.Need-starts-ok-requires
 starts-ok-requires c κs = search needs
 
-word-requires : tie.Need-word-requires
-word-requires c κs = search needs
-
-add-word : tie.Need-add-word
-add-word c = search needs
-
-word-requires-2 : tie.Need-word-requires-2
-word-requires-2 c κs = search needs
-
-plain-ok-requires : tie.Need-plain-ok-requires
-plain-ok-requires c κs = search needs
+schedule-ok-requires : tie.Need-schedule-ok-requires
+schedule-ok-requires c κs = search needs
 
 byte-requires-4 : tie.Need-byte-requires-4
 byte-requires-4 c κs = search needs
@@ -58,53 +49,20 @@ add-byte-4 c = search needs
 byte-requires-6 : tie.Need-byte-requires-6
 byte-requires-6 c κs = search needs
 
+add-word : tie.Need-add-word
+add-word c = search needs
+
+word-requires : tie.Need-word-requires
+word-requires c κs = search needs
+
 most-at-requires : tie.Need-most-at-requires
-most-at-requires c κs = c .before .before .before .before .before .pre .2 (λ e. omega (arith, c .before .before .before .match .keys4, e)) (λ e. omega (arith, c .before .before .before .match .keys4, e))
-
-block-ok-requires : tie.Need-block-ok-requires
-block-ok-requires c κs = search needs
-
-word-requires-3 : tie.Need-word-requires-3
-word-requires-3 c κs = search needs
-
-add-word-2 : tie.Need-add-word-2
-add-word-2 c = search needs
-
-word-requires-4 : tie.Need-word-requires-4
-word-requires-4 c κs = search needs
-
-loop-ok-requires : tie.Need-loop-ok-requires
-loop-ok-requires c κs = search needs
-
-byte-requires-7 : tie.Need-byte-requires-7
-byte-requires-7 c κs = search needs
-
-add-byte-5 : tie.Need-add-byte-5
-add-byte-5 c = search needs
-
-byte-requires-8 : tie.Need-byte-requires-8
-byte-requires-8 c κs = search needs
-
-add-byte-6 : tie.Need-add-byte-6
-add-byte-6 c = search needs
-
-byte-requires-9 : tie.Need-byte-requires-9
-byte-requires-9 c κs = search needs
-
-add-word-3 : tie.Need-add-word-3
-add-word-3 c = search needs
-
-word-requires-5 : tie.Need-word-requires-5
-word-requires-5 c κs = search needs
-
-most-at-requires-2 : tie.Need-most-at-requires-2
-most-at-requires-2 c κs = c .before .before .before .before .before .before .pre .2 (λ e. omega (arith, c .before .before .before .before .match .keys6, e)) (λ e. omega (arith, c .before .before .before .before .match .keys6, e))
+most-at-requires c κs = c .before .before .before .before .before .before .pre .2 (λ e. omega (arith, c .before .before .before .before .match .keys4, e)) (λ e. omega (arith, c .before .before .before .before .match .keys4, e))
 
 once-ok-requires : tie.Need-once-ok-requires
 once-ok-requires c κs = search needs
 
-schedule-ok-requires : tie.Need-schedule-ok-requires
-schedule-ok-requires c κs = search needs
+node-value-ok-requires : tie.Need-node-value-ok-requires
+node-value-ok-requires c κs = (omega arith, c .before .before .before .before .pre .2 (λ e. omega (arith, e)) (λ e. omega (arith, e)))
 
 returns : tie.Need-returns
 unfolding valueOk
@@ -116,42 +74,36 @@ returns-2 c = rw (c .before .before .match .keys2, sym (c .before .period-at .en
 
 returns-3 : tie.Need-returns-3
 unfolding valueOk
-returns-3 c = rw (c .before .before .before .match .keys3, sym (c .before .before .word .ensures .0), sym (c .before .word2 .ensures .0)) (c .plain-ok .ensures)
+returns-3 c = rw (c .before .match .keys3) (c .schedule-ok .ensures)
 
 returns-4 : tie.Need-returns-4
 unfolding valueOk
 returns-4 c =
-    rw (c .before .before .before .before .before .match .keys4, sym (c .before .before .before .before .byte4 .ensures .0), sym (c .before .before .before .byte5 .ensures .0), sym (c .before .before .byte6 .ensures .0), sym (c .before .most-at .ensures))
-    (c .block-ok .ensures)
+    rw (c .before .before .before .before .before .before .match .keys4, sym (c .before .before .before .before .before .byte4 .ensures .0), sym (c .before .before .before .before .byte5 .ensures .0), sym (c .before .before .before .byte6 .ensures .0), sym (c .before .before .word .ensures .0), sym (c .before .most-at .ensures))
+    (c .once-ok .ensures)
 
 returns-5 : tie.Need-returns-5
 unfolding valueOk
-returns-5 c = rw (c .before .before .before .match .keys5, sym (c .before .before .word3 .ensures .0), sym (c .before .word4 .ensures .0)) (c .loop-ok .ensures)
+returns-5 c =
+    let tag = c .before .before .before .before .before .args .tag in
+    let low = le-leb 3 tag (omega arith) in
+    let high = le-leb tag 7 (omega arith) in
+    let r = c .before .before .before .match .rest in
+    simp (ne-eqb tag 1 (r .0 .0 .0 .1), ne-eqb tag 2 (r .0 .0 .1), low, high) (c .node-value-ok .ensures)
 
 returns-6 : tie.Need-returns-6
 unfolding valueOk
 returns-6 c =
-    rw (c .before .before .before .before .before .before .match .keys6, sym (c .before .before .before .before .before .byte7 .ensures .0), sym (c .before .before .before .before .byte8 .ensures .0), sym (c .before .before .before .byte9 .ensures .0), sym (c .before .before .word5 .ensures .0), sym (c .before .most-at2 .ensures))
-    (c .once-ok .ensures)
+    let r = c .before .match .rest in
+    let tag = c .before .before .before .args .tag in
+    simp (ne-eqb tag 1 (r .0 .0 .0 .1), ne-eqb tag 2 (r .0 .0 .1), lt-leb 3 tag (omega arith), ne-eqb tag 9 (r .0 .1), ne-eqb tag 10 (r .1))
 
 returns-7 : tie.Need-returns-7
 unfolding valueOk
-returns-7 c = rw (c .before .match .keys7) (c .schedule-ok .ensures)
-
-returns-8 : tie.Need-returns-8
-unfolding valueOk
-returns-8 c =
-    let r = c .match .rest in
-    let tag = c .before .before .args .tag in
-    simp (
-      ne-eqb tag 1 (r .0 .0 .0 .0 .0 .0 .1),
-      ne-eqb tag 2 (r .0 .0 .0 .0 .0 .1),
-      ne-eqb tag 3 (r .0 .0 .0 .0 .1),
-      ne-eqb tag 4 (r .0 .0 .0 .1),
-      ne-eqb tag 7 (r .0 .0 .1),
-      ne-eqb tag 10 (r .0 .1),
-      ne-eqb tag 9 (r .1),
-    )
+returns-7 c =
+    let r = c .before .before .match .rest in
+    let tag = c .before .before .before .before .args .tag in
+    simp (ne-eqb tag 1 (r .0 .0 .0 .1), ne-eqb tag 2 (r .0 .0 .1), le-leb 3 tag (omega arith), lt-leb tag 7 (omega arith), ne-eqb tag 9 (r .0 .1), ne-eqb tag 10 (r .1))
 
 pub value-ok-spec : {M : Type 1} → statement M
 value-ok-spec =
@@ -165,36 +117,21 @@ value-ok-spec =
     bus-ok-requires
     period-at-requires
     starts-ok-requires
-    word-requires
-    add-word
-    word-requires-2
-    plain-ok-requires
+    schedule-ok-requires
     byte-requires-4
     add-byte-3
     byte-requires-5
     add-byte-4
     byte-requires-6
+    add-word
+    word-requires
     most-at-requires
-    block-ok-requires
-    word-requires-3
-    add-word-2
-    word-requires-4
-    loop-ok-requires
-    byte-requires-7
-    add-byte-5
-    byte-requires-8
-    add-byte-6
-    byte-requires-9
-    add-word-3
-    word-requires-5
-    most-at-requires-2
     once-ok-requires
-    schedule-ok-requires
+    node-value-ok-requires
     returns
     returns-2
     returns-3
     returns-4
     returns-5
     returns-6
-    returns-7
-    returns-8)
+    returns-7)

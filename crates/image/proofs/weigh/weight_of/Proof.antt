@@ -91,7 +91,7 @@ mul-t17 c =
     let start = c .before .before .before .before .before in
     let e = sym (c .before .before .before .node-at .ensures) ∙ c .before .node3 .given .1 in
     let f = fine-here _ _ _ (start .pre .0) _ e in
-    let h : c .before .node3 .given .0 .0 .body < 256 = omega (arith, f .2, few-here _ _ _ (start .pre .0)) in omega arith
+    let h : c .before .node3 .given .0 .0 .body < 256 = omega (arith, f .1, few-here _ _ _ (start .pre .0)) in omega arith
 
 element-copy-out-t20 : tie.Need-element-copy-out-t20
 unfolding Fine
@@ -99,7 +99,7 @@ element-copy-out-t20 c =
     let start = c .before .before .before .before .before in
     let e = sym (c .before .before .before .node-at .ensures) ∙ c .before .node3 .given .1 in
     let f = fine-here _ _ _ (start .pre .0) _ e in
-    let h : c .before .node3 .given .0 .0 .body < 256 = omega (arith, f .2, few-here _ _ _ (start .pre .0)) in h
+    let h : c .before .node3 .given .0 .0 .body < 256 = omega (arith, f .1, few-here _ _ _ (start .pre .0)) in h
 
 mul-t21 : tie.Need-mul-t21
 unfolding Fine
@@ -107,7 +107,7 @@ mul-t21 c =
     let start = c .before .before .before .before .before .before in
     let e = sym (c .before .before .before .before .node-at .ensures) ∙ c .before .before .node3 .given .1 in
     let f = fine-here _ _ _ (start .pre .0) _ e in
-    let h : c .before .before .node3 .given .0 .0 .body < 256 = omega (arith, f .2, few-here _ _ _ (start .pre .0)) in omega arith
+    let h : c .before .before .node3 .given .0 .0 .body < 256 = omega (arith, f .1, few-here _ _ _ (start .pre .0)) in omega arith
 
 element-copy-out-t24 : tie.Need-element-copy-out-t24
 unfolding Fine
@@ -115,7 +115,7 @@ element-copy-out-t24 c =
     let start = c .before .before .before .before .before .before in
     let e = sym (c .before .before .before .before .node-at .ensures) ∙ c .before .before .node3 .given .1 in
     let f = fine-here _ _ _ (start .pre .0) _ e in
-    let h : c .before .before .node3 .given .0 .0 .body < 256 = omega (arith, f .2, few-here _ _ _ (start .pre .0)) in h
+    let h : c .before .before .node3 .given .0 .0 .body < 256 = omega (arith, f .1, few-here _ _ _ (start .pre .0)) in h
 
 mul-t25 : tie.Need-mul-t25
 unfolding Fine
@@ -125,8 +125,8 @@ mul-t25 c =
     let f = fine-here _ _ _ (start .pre .0) _ e in
     let l = c .before .before .before .before .node3 .given .0 .0 in
     let v = getD (start .args .visits .now) (l .body) 0 in
-    let low : v ≤ 100001 = omega (arith, start .pre .1 .long (l .body) (f .2)) in
-    product-fits (l .greatest) v (omega (arith, f .1)) (omega arith)
+    let low : v ≤ 100001 = omega (arith, start .pre .1 .long (l .body) (f .1)) in
+    product-fits (l .greatest) v (omega (arith, f .0 .most)) (omega arith)
 
 above-requires-6 : tie.Need-above-requires-6
 unfolding Fine
@@ -136,9 +136,9 @@ above-requires-6 c κs =
     let f = fine-here _ _ _ (start .pre .0) _ e in
     let l = c .before .before .before .before .node3 .given .0 .0 in
     let v = getD (start .args .visits .now) (l .body) 0 in
-    let low : v ≤ 100001 = omega (arith, start .pre .1 .long (l .body) (f .2)) in
-    let most : l .greatest * v ≤ 10000 * 100001 = mul-le-mul (f .1) low in
-    (omega (arith, start .pre .1 .deep (l .body) (f .2)), omega arith)
+    let low : v ≤ 100001 = omega (arith, start .pre .1 .long (l .body) (f .1)) in
+    let most : l .greatest * v ≤ 10000 * 100001 = mul-le-mul (f .0 .most) low in
+    (omega (arith, start .pre .1 .deep (l .body) (f .1)), omega arith)
 
 returns : tie.Need-returns
 unfolding treeBy meant depth visited
@@ -185,8 +185,8 @@ returns-6 c =
     let f = fine-here _ _ _ (start .pre .0) _ e in
     let l = c .before .before .before .before .before .node3 .given .0 .0 in
     let t = tree-here _ _ _ (start .pre .0) _ e in
-    let d = start .pre .1 .deep (l .body) (f .2) in
-    let v = start .pre .1 .long (l .body) (f .2) in
+    let d = start .pre .1 .deep (l .body) (f .1) in
+    let v = start .pre .1 .long (l .body) (f .1) in
     record {
       deep = rw t (c .above6 .ensures .0 ∙ one-deeper _ _ d);
       long = rw t (c .above6 .ensures .1 ∙ one-more _ _ (rw v (cap-times 100001 (l .greatest) _)));

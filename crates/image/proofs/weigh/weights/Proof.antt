@@ -28,7 +28,7 @@ weight-of-requires : tie.Need-weight-of-requires Inv-loop μ-loop
 weight-of-requires c κs =
     let start = c .before .before .before .before .before .before in
     let l = c .before .before .before .before .loop in (
-      record { passed = fewer _ (l .n + 3) (start .args .nodes + 2) (omega arith) (start .pre .1); place = start .pre .2 (l .n) (omega arith) },
+      record { passed = fewer _ (l .n + 3) (start .args .nodes + 2) (omega arith) (start .pre .1); place = start .pre .2 .each (l .n) (omega arith) },
       record { deep = l .inv .1 .right; long = l .inv .2 .right },
     )
 
