@@ -8,14 +8,14 @@ use native.Mathlib.Omega.{arith}
 use Prim.Native.Nat.{ℕ, _≤_, _<_}
 use Rattle.runs.proofs.Cases.{either}
 use Rattle.bytes.specs.Bytes.{byteAt}
-use Rattle.image.specs.Fields.{plainOk}
+use Rattle.rows.specs.Tests.{plainOk}
 use Rattle.image.specs.Judged.{judged}
 use Rattle.image.specs.declared.Refusal.{Refusal}
 use Rattle.image.specs.declared.Refusal.the-variants.{Value, Block}
 use Rattle.image.specs.declared.Outline.{Outline}
 use Rattle.image.specs.declared.Verdict.{Verdict}
 use Rattle.image.specs.declared.Verdict.the-variants.{Accepted, Refused}
-use Rattle.image.proofs.Kept.{durations-kept, kept-durations}
+use Rattle.rows.proofs.Rules.{durations-kept, kept-durations}
 use Rattle.image.proofs.Longest.{longest}
 use Rattle.image.proofs.Reasons.{refused-when, when-refused, when-accepted, accepted-when}
 use Rattle.edits.specs.declared.Found.the-variants.{At, Refused as NotFound}

@@ -7,11 +7,11 @@ use native.Mathlib.Omega.{arith}
 use Prim.Native.Nat.{ℕ, _+_, _<_}
 use Rattle.runs.specs.Nodes.{Node}
 use Rattle.bytes.specs.Bytes.{byteAt, wordAt}
-use Rattle.image.specs.Fields.{plainOk, valueOk}
-use Rattle.image.specs.Nodes.{nodeAt}
+use Rattle.rows.specs.Tests.{plainOk, valueOk}
+use Rattle.nodes.specs.Nodes.{nodeAt}
 use Rattle.image.specs.Judged.{numberOf}
 use Rattle.image.specs.declared.Refusal.{Refusal}
-use Rattle.image.proofs.Kept.{durations-kept}
+use Rattle.rows.proofs.Rules.{durations-kept}
 use Rattle.figures.specs.declared.Answer.{Answer}
 use Rattle.figures.specs.Answers.{refused, resultOf, answer, tableAfter}
 use Rattle.figures.specs.Promise.{Equal}

@@ -8,13 +8,13 @@ use native.Mathlib.Omega.{arith}
 use Prim.Native.Nat.{ℕ, _+_}
 use Rattle.runs.specs.Nodes.{Node as RunNode}
 use Rattle.bytes.specs.Bytes.{byteAt, wordAt}
-use Rattle.image.specs.Nodes.{nodeFrom, meant, nodeAt}
-use Rattle.image.specs.declared.nodes.Node.the-variants.{Plain, Bus, Once, Sequence, Branch, Loop}
-use Rattle.image.specs.declared.nodes.Plain.{Plain as PlainNumbers}
-use Rattle.image.specs.declared.nodes.BusBlock.{BusBlock}
-use Rattle.image.specs.declared.nodes.Once.{Once as OnceNumbers}
-use Rattle.image.specs.declared.nodes.Children.{Children}
-use Rattle.image.specs.declared.nodes.Loop.{Loop as LoopNumbers}
+use Rattle.nodes.specs.Nodes.{nodeFrom, meant, nodeAt}
+use Rattle.nodes.specs.declared.Node.the-variants.{Plain, Bus, Once, Sequence, Branch, Loop}
+use Rattle.nodes.specs.declared.Plain.{Plain as PlainNumbers}
+use Rattle.nodes.specs.declared.BusBlock.{BusBlock}
+use Rattle.nodes.specs.declared.Once.{Once as OnceNumbers}
+use Rattle.nodes.specs.declared.Children.{Children}
+use Rattle.nodes.specs.declared.Loop.{Loop as LoopNumbers}
 use Rattle.image.specs.declared.Outline.{Outline}
 use Rattle.schedule.proofs.Numbers.{both}
 use Rattle.edits.specs.Edits.{placeOf, isPlain}

@@ -14,15 +14,20 @@ use Rattle.bytes.specs.Bytes.{byteAt, wordAt}
 use Rattle.bytes.proofs.Agreeing.{Agree, agree-part, agree-first, agree-here, agree-word, agree-bytes}
 use Rattle.schedule.specs.Said.{said}
 use Rattle.schedule.proofs.Writings.{agree-said}
-use Rattle.image.specs.Fields.{lengthOk, valueOk, childrenOk}
-use Rattle.image.specs.Nodes.{fieldAt, nodeFrom, meant, nodeAt, treeAt, startsOf}
-use Rattle.image.specs.Conditions.{tagAt, lengthAt, bodyAt, GoodField, Accepting}
+use Rattle.rows.specs.Tests.{lengthOk, valueOk, childrenOk}
+use Rattle.rows.specs.Fields.{fieldAt, tagAt, lengthAt, bodyAt, GoodField}
+use Rattle.nodes.specs.Nodes.{nodeFrom, meant, nodeAt, treeAt}
+use Rattle.image.specs.Tasks.{startsOf}
+use Rattle.image.specs.Conditions.{Accepting}
 use Rattle.image.specs.Judged.{judged}
 use Rattle.image.specs.declared.Verdict.the-variants.{Accepted}
-use Rattle.image.proofs.Passing.{next-at, first-at, fewer}
-use Rattle.image.proofs.Kept.{first-end, kept-durations, node-tag}
-use Rattle.image.proofs.Levels.{falls}
-use Rattle.image.proofs.Reading.{covers-row, covers-node, agree-value, agree-children, agree-node}
+use Rattle.rows.proofs.Standing.{next-at, first-at, fewer}
+use Rattle.rows.proofs.Kept.{first-end, node-tag}
+use Rattle.rows.proofs.Rules.{kept-durations}
+use Rattle.nodes.proofs.Levels.{falls}
+use Rattle.rows.proofs.Reading.{covers-row, agree-value, agree-children}
+use Rattle.image.proofs.Reading.{covers-node}
+use Rattle.nodes.proofs.Reading.{agree-node}
 use Rattle.image.proofs.Reasons.{accepted-when}
 use Rattle.edits.specs.Edits.{placeOf, imageWith}
 use Rattle.edits.specs.Promise.{Editable}

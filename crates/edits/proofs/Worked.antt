@@ -11,9 +11,10 @@ use Rattle.runs.specs.Carried.{carried}
 use Rattle.runs.specs.Figures.{noTime, startTimes, startSet, longer, later, longestOf, atOffsets, cost, entryOf, held, sum}
 use Rattle.bytes.specs.Bytes.{wordAt, words, bytes}
 use Rattle.schedule.specs.Said.{busOk, said}
-use Rattle.image.specs.Fields.{tagOk, nodeLengthOk, lengthOk, startsOk, plainOk, accessOk, blockOk, loopOk, nodeValueOk, valueOk, below, childrenOk, fieldOf}
-use Rattle.image.specs.Nodes.{fieldAt, nodeFrom, meant, nodeAt}
-use Rattle.image.specs.Judged.{scanFrom, scan, wholeOf, judged}
+use Rattle.rows.specs.Tests.{tagOk, nodeLengthOk, lengthOk, startsOk, plainOk, accessOk, blockOk, loopOk, nodeValueOk, valueOk, below, childrenOk}
+use Rattle.image.specs.Judged.{fieldOf, scanFrom, scan, wholeOf, judged}
+use Rattle.rows.specs.Fields.{fieldAt}
+use Rattle.nodes.specs.Nodes.{nodeFrom, meant, nodeAt}
 use Rattle.figures.specs.Answers.{given, refused}
 use Rattle.edits.specs.Edits.{Change, done, withDurations, found, change, imageAfter, previewOf, previewTable}
 use Rattle.edits.specs.Promise.{Editable}

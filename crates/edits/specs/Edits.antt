@@ -5,9 +5,8 @@ use mathlib.Core.List.{List}
 use lib.ListN.{length, set}
 use lib.Dec.{eqb, ltb}
 use Prim.Native.Nat.{ℕ, _+_, _/_, _%_}
-use Rattle.image.specs.Fields.{plainOk}
-use Rattle.image.specs.Nodes.{fieldAt}
-use Rattle.image.specs.Conditions.{tagAt, bodyAt}
+use Rattle.rows.specs.Tests.{plainOk}
+use Rattle.rows.specs.Fields.{fieldAt, tagAt, bodyAt}
 use Rattle.image.specs.Judged.{numberOf, judged}
 use Rattle.image.specs.declared.Refusal.the-variants.{Value, Block}
 use Rattle.image.specs.declared.Outline.{Outline}

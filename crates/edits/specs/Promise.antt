@@ -6,9 +6,10 @@ use lib.ListN.{length}
 use Prim.Native.Nat.{ℕ, _+_, _≤_, _<_}
 use Rattle.runs.specs.Nodes.{Node, depth, visits}
 use Rattle.bytes.specs.Bytes.{byteAt}
-use Rattle.image.specs.Nodes.{nodeAt, treeAt, startsOf, taskOf}
+use Rattle.nodes.specs.Nodes.{nodeAt, treeAt}
+use Rattle.image.specs.Tasks.{startsOf, taskOf}
 use Rattle.image.specs.Conditions.{Condition, Accepting}
-use Rattle.image.specs.Promise.{Durations}
+use Rattle.rows.specs.Rules.{Durations}
 use Rattle.image.specs.Judged.{judged}
 use Rattle.image.specs.declared.Refusal.{Refusal}
 use Rattle.image.specs.declared.Refusal.the-variants.{Value, Table, Block}

@@ -6,7 +6,7 @@ use borrow.Author.Tests.{lt-ltb, le-ltb}
 use Prim.Native.Nat.{ℕ, _≤_, _<_}
 use Rattle.runs.specs.Figures.{longestOf, published, tight}
 use Rattle.schedule.specs.Said.{said}
-use Rattle.image.specs.Nodes.{taskOf}
+use Rattle.image.specs.Tasks.{taskOf}
 use Rattle.image.specs.declared.Refusal.the-variants.{Table}
 use Rattle.image.specs.declared.Outline.{Outline}
 use Rattle.times.specs.Arrays.{timeOf, tableOf}

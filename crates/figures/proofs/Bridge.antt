@@ -16,8 +16,9 @@ use Rattle.bus.specs.declared.Bus.{Bus}
 use Rattle.bus.specs.Owning.{busMeant, Fit}
 use Rattle.runs.specs.Bus.{SameBus}
 use Rattle.schedule.specs.Said.{said}
-use Rattle.image.specs.Nodes.{startsOf, taskOf, treeAt}
-use Rattle.image.specs.Conditions.{bodyAt}
+use Rattle.image.specs.Tasks.{startsOf, taskOf}
+use Rattle.nodes.specs.Nodes.{treeAt}
+use Rattle.rows.specs.Fields.{bodyAt}
 use Rattle.image.specs.Walks.{Walkable}
 use Rattle.image.specs.declared.Outline.{Outline}
 use Rattle.image.specs.declared.Walk.{Walk}

@@ -17,7 +17,8 @@ use Rattle.schedule.specs.Said.{slotsAt, said}
 use Rattle.schedule.specs.Written.{slotsField, turnsField}
 use Rattle.schedule.proofs.Sayings.{slots-ranged}
 use Rattle.schedule.proofs.Writings.{evenly}
-use Rattle.image.specs.Nodes.{nodeAt, taskOf}
+use Rattle.nodes.specs.Nodes.{nodeAt}
+use Rattle.image.specs.Tasks.{taskOf}
 use Rattle.image.specs.Judged.{judged}
 use Rattle.image.specs.Moved.{moved}
 use Rattle.image.specs.declared.Outline.{Outline}
@@ -25,7 +26,7 @@ use Rattle.image.specs.declared.Verdict.{Verdict}
 use Rattle.image.specs.declared.Verdict.the-variants.{Accepted, Refused}
 use Rattle.image.proofs.SameRest.{long, judged-moved, nodes-same, starts-same}
 use Rattle.image.proofs.EitherWay.{instead, same-said}
-use Rattle.image.proofs.Kept.{slots-row}
+use Rattle.rows.proofs.Kept.{slots-row}
 use Rattle.image.proofs.Reasons.{when-accepted}
 use Rattle.image.proofs.Sounds.{ranged-kept, accepted}
 use Rattle.figures.specs.Answers.{given, refused, figuresOf, afterJudging, answer, tableFor, tableAfter}

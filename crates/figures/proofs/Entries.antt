@@ -12,7 +12,7 @@ use Rattle.runs.specs.Carried.{row}
 use Rattle.runs.specs.Figures.{Time, noTime, entryOf, held, longestOf, exitTimes, exitCount, tight}
 use Rattle.runs.proofs.Joins.{row-same, sum-same}
 use Rattle.schedule.specs.Said.{said}
-use Rattle.image.specs.Nodes.{taskOf}
+use Rattle.image.specs.Tasks.{taskOf}
 use Rattle.image.specs.declared.Outline.{Outline}
 use Rattle.times.specs.Arrays.{timeOf, tableOf}
 use Rattle.times.proofs.Tables.{tableOf-at}

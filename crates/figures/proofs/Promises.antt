@@ -10,7 +10,7 @@ use Prim.Native.Nat.{ℕ, _≤_}
 use Rattle.runs.specs.Runs.{Task}
 use Rattle.runs.specs.Figures.{entryOf, tight, published, exitCount}
 use Rattle.runs.proofs.Whole.{whole-exact}
-use Rattle.image.specs.Nodes.{taskOf}
+use Rattle.image.specs.Tasks.{taskOf}
 use Rattle.image.specs.Judged.{judged}
 use Rattle.image.specs.Promise.{Judging}
 use Rattle.image.specs.declared.Refusal.{Refusal}

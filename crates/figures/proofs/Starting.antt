@@ -21,7 +21,8 @@ use Rattle.runs.proofs.Joins.{row-same, longer-joins}
 use Rattle.runs.proofs.LinesLaws.{power-pos}
 use Rattle.runs.proofs.Meanings.{row-at}
 use Rattle.bus.specs.Owning.{busMeant}
-use Rattle.image.specs.Nodes.{startsOf, taskOf, treeAt}
+use Rattle.image.specs.Tasks.{startsOf, taskOf}
+use Rattle.nodes.specs.Nodes.{treeAt}
 use Rattle.image.specs.Walks.{Walkable}
 use Rattle.image.specs.declared.Walk.{Walk}
 use Rattle.offsets.specs.declared.Set.{Set}

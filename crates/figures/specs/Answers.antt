@@ -9,7 +9,7 @@ use Prim.Native.Nat.{ℕ}
 use Rattle.runs.specs.Runs.{Task}
 use Rattle.runs.specs.Carried.{row}
 use Rattle.runs.specs.Figures.{entryOf, exitTimes, exitCount, tight, published}
-use Rattle.image.specs.Nodes.{taskOf}
+use Rattle.image.specs.Tasks.{taskOf}
 use Rattle.image.specs.Judged.{numberOf, judged}
 use Rattle.image.specs.declared.Refusal.the-variants.{Table}
 use Rattle.image.specs.declared.Verdict.{Verdict}

@@ -9,7 +9,7 @@ use Rattle.runs.specs.Slots.{equation7}
 use Rattle.runs.specs.Figures.{published}
 use Rattle.bytes.specs.Bytes.{byteAt}
 use Rattle.schedule.specs.Said.{scheduleAt}
-use Rattle.image.specs.Nodes.{taskOf}
+use Rattle.image.specs.Tasks.{taskOf}
 use Rattle.image.specs.Judged.{judged}
 use Rattle.image.specs.declared.Outline.{Outline}
 use Rattle.image.specs.declared.Verdict.the-variants.{Accepted}

@@ -14,8 +14,8 @@ use Rattle.bus.specs.Owning.{busMeant}
 use Rattle.offsets.specs.declared.Set.{Set}
 use Rattle.offsets.specs.Sets.{value, has}
 use Rattle.bytes.specs.Bytes.{byteAt}
-use Rattle.image.specs.Conditions.{lengthAt, bodyAt}
-use Rattle.image.specs.Nodes.{startsOf, taskOf}
+use Rattle.rows.specs.Fields.{lengthAt, bodyAt}
+use Rattle.image.specs.Tasks.{startsOf, taskOf}
 use Rattle.schedule.specs.Said.{said}
 use Rattle.image.specs.Promise.{Sound}
 use Rattle.image.specs.declared.Outline.{Outline}

@@ -16,13 +16,13 @@ use Rattle.runs.proofs.SomeRun.{some-execution}
 use Rattle.runs.proofs.Whole.{whole-valid}
 use Rattle.runs.proofs.OnTheClock.{does-on}
 use Rattle.bytes.specs.Bytes.{byteAt}
-use Rattle.image.specs.Nodes.{taskOf, startsOf}
-use Rattle.image.specs.Conditions.{lengthAt, bodyAt}
+use Rattle.image.specs.Tasks.{taskOf, startsOf}
+use Rattle.rows.specs.Fields.{lengthAt, bodyAt}
 use Rattle.image.specs.Judged.{judged}
-use Rattle.image.specs.Promise.{Starts}
+use Rattle.rows.specs.Rules.{Starts}
 use Rattle.image.specs.declared.Outline.{Outline}
 use Rattle.image.specs.declared.Verdict.the-variants.{Accepted}
-use Rattle.image.proofs.Lists.{is-listed}
+use Rattle.nodes.proofs.Lists.{is-listed}
 use Rattle.image.proofs.Reasons.{when-accepted}
 use Rattle.image.proofs.Sounds.{accepted, starts-kept}
 use Rattle.figures.specs.Answers.{given, answer}

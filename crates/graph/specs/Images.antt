@@ -5,7 +5,7 @@ use mathlib.Core.List.{List}
 use Prim.Native.Nat.{ℕ, _+_, _%_, _≤_, _<_}
 use Rattle.runs.specs.Clock.{State, on}
 use Rattle.runs.specs.Runs.{Task, placesOf, isStart, Does}
-use Rattle.image.specs.Nodes.{taskOf}
+use Rattle.image.specs.Tasks.{taskOf}
 use Rattle.image.specs.Judged.{judged}
 use Rattle.image.specs.declared.Outline.{Outline}
 use Rattle.image.specs.declared.Verdict.the-variants.{Accepted}

@@ -15,10 +15,9 @@ use Rattle.schedule.specs.Said.{said}
 use Rattle.schedule.specs.Written.{slotsField, turnsField}
 use Rattle.schedule.proofs.Sayings.{kept-ranges, said-slots, said-turns}
 use Rattle.schedule.proofs.Writings.{pairs-long, written-length, written-read, evenly, even-count, even-ok, even-same}
-use Rattle.image.specs.Fields.{tagOk, lengthOk, valueOk, childrenOk}
-use Rattle.image.specs.Nodes.{fieldAt}
-use Rattle.image.specs.Conditions.{GoodField}
-use Rattle.image.proofs.Rules.{good}
+use Rattle.rows.specs.Tests.{tagOk, lengthOk, valueOk, childrenOk}
+use Rattle.rows.specs.Fields.{fieldAt, GoodField}
+use Rattle.rows.proofs.Rules.{good}
 use Rattle.image.proofs.SameRest.{Instead}
 
 module _ (v : Slots) (h : Ranges v) (rest : List ℕ) where

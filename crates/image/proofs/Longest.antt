@@ -7,12 +7,12 @@ use lib.ListN.{length}
 use native.Mathlib.Nat.{not-suc-le-zero}
 use native.Mathlib.Omega.{arith}
 use Prim.Native.Nat.{ℕ, zero, suc, _+_, _*_, _≤_}
-use Rattle.image.specs.Rules.{TagRule, LengthRule, ChildRule}
-use Rattle.image.specs.Nodes.{fieldAt}
-use Rattle.image.specs.Conditions.{tagAt, lengthAt, bodyAt, GoodField, Passed, Accepting, longestImage}
+use Rattle.rows.specs.Rules.{TagRule, LengthRule, ChildRule}
+use Rattle.rows.specs.Fields.{fieldAt, tagAt, lengthAt, bodyAt, GoodField, Passed}
+use Rattle.image.specs.Conditions.{Accepting, longestImage}
 use Rattle.image.specs.declared.Outline.{Outline}
-use Rattle.image.proofs.Passing.{next-at, few, fewer}
-use Rattle.image.proofs.Kept.{good-tag, good-length, node-tag, first-end, first-most, starts-count}
+use Rattle.rows.proofs.Standing.{next-at, few, fewer}
+use Rattle.rows.proofs.Kept.{good-tag, good-length, node-tag, first-end, first-most, starts-count}
 
 -- a node field's tag is none of fields 1 and 2
 header-none : (own t : ℕ) → TagRule (own + 2) t → (3 ≤ t) × (t ≡ 9 → ⊥)

@@ -1,35 +1,26 @@
 -- Good fields are passed by the scan one after the other, so that it goes on as the rest of the image does.
-use mathlib.Core.Path.{_≡_, refl, sym, _∙_}
+use mathlib.Core.Path.{_≡_, sym, _∙_}
 use mathlib.Core.List.{List}
 use Prim.Native.Nat.{ℕ, zero, suc, _+_, _-_, _≤_, _<_}
 use native.Mathlib.Numerals.{add-one}
 use native.Mathlib.Omega.{arith}
 use lib.ListN.{length}
 use borrow.Author.Tests.{le-leb, lt-leb, le-ltb}
-use borrow.Author.Count.{below-more}
-use Rattle.image.specs.Fields.{fieldOf}
-use Rattle.image.specs.Nodes.{fieldAt}
-use Rattle.image.specs.Judged.{scanFrom, scan}
-use Rattle.image.specs.Conditions.{lengthAt, GoodField, Passed, Complete}
+use Rattle.image.specs.Judged.{fieldOf, scanFrom, scan}
+use Rattle.rows.specs.Fields.{fieldAt, lengthAt, GoodField, Passed}
+use Rattle.image.specs.Conditions.{Complete}
 use Rattle.image.specs.declared.Refusal.{Refusal}
 use Rattle.image.specs.declared.fields.Judgement.the-variants.{Good, Bad}
 use Rattle.image.specs.declared.fields.End.the-variants.{Stopped, Whole}
-use Rattle.image.proofs.Rules.{tested}
+use Rattle.rows.proofs.Rules.{tested}
+use Rattle.rows.proofs.Standing.{next-at, first-at, few, fewer}
 
 module _ (s : List ℕ) where
-  pub next-at : (k : ℕ) → fieldAt s (suc k) ≡ fieldAt s k + 3 + lengthAt s k
-  unfolding fieldAt
-  next-at k = refl
-
-  pub first-at : fieldAt s 0 ≡ 0
-  unfolding fieldAt
-  first-at = refl
-
   pub good-is : (k : ℕ) → GoodField s k → fieldOf s (fieldAt s k) k ≡ Good (fieldAt s (suc k))
   unfolding fieldOf
   good-is k g =
       let t = tested s k g in
-      rw (next-at k)
+      rw (next-at s k)
       (simp (
         le-ltb (length s - fieldAt s k) 3 (omega (arith, t .head)),
         t .tag,
@@ -41,7 +32,7 @@ module _ (s : List ℕ) where
       ))
 
   -- the scan at the place of the field with `index` fields before it
-  module _ (at index : ℕ) (few : index ≤ 258) where
+  module _ (at index : ℕ) (room : index ≤ 258) where
     more : 259 - index ≡ suc (259 - (index + 1))
     more = omega arith
 
@@ -58,33 +49,18 @@ module _ (s : List ℕ) where
     unfolding scanFrom
     at-end h = rw (more, le-leb (length s) at h)
 
-  pub few : (n : ℕ) → Passed s n → n ≤ 258
-  few zero p = omega arith
-  few (suc n) p = omega (arith, tested s n (p n (omega arith)) .room)
-
-  pub fewer : (m n : ℕ) → m ≤ n → Passed s n → Passed s m
-  fewer m n h p k l = p k (omega arith)
-
-  pub inside : (n : ℕ) → Passed s n → fieldAt s n ≤ length s
-  inside zero p = rw first-at (omega arith)
-  inside (suc n) p = rw (next-at n) (tested s n (p n (omega arith)) .body)
-
   -- the scan from the front goes on where the passed fields end
   pub rest : (n : ℕ) → Passed s n → scanFrom (259 - n) s (fieldAt s n) n ≡ scan s
   unfolding scan
-  rest zero p = rw first-at
+  rest zero p = rw (first-at s)
   rest (suc n) p =
       let g = p n (omega arith) in
       let t = tested s n g in
       sym (rw (add-one n) at (on-good (fieldAt s n) n (omega (arith, t .room)) (fieldAt s (suc n)) (omega (arith, t .head)) (good-is n g)))
-      ∙ rest n (fewer n (suc n) (omega arith) p)
+      ∙ rest n (fewer s n (suc n) (omega arith) p)
 
   pub stops : (k : ℕ) (r : Refusal) → Passed s k → fieldAt s k < length s → fieldOf s (fieldAt s k) k ≡ Bad r → scan s ≡ Stopped r (fieldAt s k)
-  stops k r p l e = sym (rest k p) ∙ on-bad (fieldAt s k) k (few k p) r l e
+  stops k r p l e = sym (rest k p) ∙ on-bad (fieldAt s k) k (few s k p) r l e
 
   pub ends : (n : ℕ) → Complete s n → scan s ≡ Whole n
-  ends n c = sym (rest n (c .passed)) ∙ at-end (fieldAt s n) n (few n (c .passed)) (omega (arith, c .ends))
-
-  -- one more good field
-  pub passed-more : (n : ℕ) → Passed s n → GoodField s n → Passed s (n + 1)
-  passed-more n p g = below-more (GoodField s) n p g
+  ends n c = sym (rest n (c .passed)) ∙ at-end (fieldAt s n) n (few s n (c .passed)) (omega (arith, c .ends))

@@ -9,16 +9,18 @@ use borrow.Author.Tests.{lt-ltb, le-ltb}
 use Rattle.runs.proofs.Cases.{split}
 use Rattle.runs.proofs.Joins.{row-length}
 use Rattle.runs.proofs.Meanings.{row-at}
-use Rattle.image.specs.Nodes.{fieldAt, nodePlaces}
+use Rattle.rows.specs.Fields.{fieldAt}
+use Rattle.image.specs.Tasks.{nodePlaces}
 use Rattle.image.specs.Judged.{scan, wholeOf, judged}
 use Rattle.image.specs.Promise.{Sound, Judging}
-use Rattle.image.specs.Inner.{Placed}
+use Rattle.nodes.specs.Fine.{Placed}
 use Rattle.image.specs.declared.Refusal.{Refusal}
 use Rattle.image.specs.declared.fields.End.the-variants.{Stopped, Whole}
 use Rattle.image.specs.declared.Outline.{Outline}
 use Rattle.image.specs.declared.Verdict.{Verdict}
 use Rattle.image.specs.declared.Verdict.the-variants.{Accepted, Refused}
-use Rattle.image.proofs.Passing.{few, ends}
+use Rattle.rows.proofs.Standing.{few}
+use Rattle.image.proofs.Passing.{ends}
 use Rattle.image.proofs.Reasons.{refused-when, when-refused, when-accepted}
 use Rattle.image.proofs.Sounds.{sound}
 

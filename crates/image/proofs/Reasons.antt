@@ -12,10 +12,10 @@ use borrow.Author.Tests.{lt-ltb, le-ltb, lt-leb}
 use Rattle.runs.specs.Lines.{power}
 use Rattle.runs.specs.Nodes.{depth, visits}
 use Rattle.schedule.specs.Said.{said}
-use Rattle.image.specs.Fields.{fieldOf}
-use Rattle.image.specs.Nodes.{fieldAt, linesOf, treeAt}
-use Rattle.image.specs.Judged.{numberOf, scan, wholeOf, judged}
-use Rattle.image.specs.Conditions.{lengthAt, bodyAt, Passed, Complete, Condition, head-cut, wrong-tag, one-more, wrong-length, body-cut, wrong-value, not-below, no-node, too-deep, too-long, too-wide, Accepting}
+use Rattle.image.specs.Judged.{fieldOf, numberOf, scan, wholeOf, judged}
+use Rattle.rows.specs.Fields.{fieldAt, lengthAt, bodyAt, Passed}
+use Rattle.nodes.specs.Nodes.{linesOf, treeAt}
+use Rattle.image.specs.Conditions.{Complete, Condition, head-cut, wrong-tag, one-more, wrong-length, body-cut, wrong-value, not-below, no-node, too-deep, too-long, too-wide, Accepting}
 use Rattle.image.specs.declared.Refusal.{Refusal}
 use Rattle.image.specs.declared.Refusal.the-variants.{Cut, Tag, Full, Length, Value, Forward, Unfinished, Deep, Long, Lines}
 use Rattle.image.specs.declared.fields.Judgement.the-variants.{Bad}
@@ -23,7 +23,7 @@ use Rattle.image.specs.declared.fields.End.the-variants.{Whole}
 use Rattle.image.specs.declared.Outline.{Outline}
 use Rattle.image.specs.declared.Verdict.{Verdict}
 use Rattle.image.specs.declared.Verdict.the-variants.{Accepted, Refused}
-use Rattle.image.proofs.Rules.{refused, tag-here, length-here, value-here, child-here}
+use Rattle.rows.proofs.Rules.{refused, tag-here, length-here, value-here, child-here}
 use Rattle.image.proofs.Passing.{stops, ends}
 use Rattle.image.proofs.Says.{VerdictSays, EndSays, says, scan-says}
 

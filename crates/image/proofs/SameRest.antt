@@ -8,19 +8,22 @@ use lib.ListN.{length, length-append}
 use Rattle.runs.specs.Nodes.{Node, tree, linesTo}
 use Rattle.bytes.proofs.Agreeing.{Agree, agree-here, agree-word, agree-bytes, behind}
 use Rattle.schedule.specs.Said.{said}
-use Rattle.image.specs.Fields.{valueOk, childrenOk}
-use Rattle.image.specs.Nodes.{fieldAt, nodeAt, linesOf, treeAt, startsOf}
-use Rattle.image.specs.Conditions.{tagAt, lengthAt, bodyAt, UpToTag, UpToLength, UpToValue, GoodField, Passed, Complete, Condition, head-cut, wrong-tag, one-more, wrong-length, body-cut, wrong-value, not-below, no-node, too-deep, too-long, too-wide, Accepting}
+use Rattle.rows.specs.Tests.{valueOk, childrenOk}
+use Rattle.rows.specs.Fields.{fieldAt, tagAt, lengthAt, bodyAt, UpToTag, UpToLength, UpToValue, GoodField, Passed}
+use Rattle.nodes.specs.Nodes.{nodeAt, linesOf, treeAt}
+use Rattle.image.specs.Tasks.{startsOf}
+use Rattle.image.specs.Conditions.{Complete, Condition, head-cut, wrong-tag, one-more, wrong-length, body-cut, wrong-value, not-below, no-node, too-deep, too-long, too-wide, Accepting}
 use Rattle.image.specs.Judged.{judged}
 use Rattle.image.specs.Moved.{moved}
 use Rattle.image.specs.declared.Refusal.{Refusal}
 use Rattle.image.specs.declared.Outline.{Outline}
 use Rattle.image.specs.declared.Verdict.{Verdict}
 use Rattle.image.specs.declared.Verdict.the-variants.{Accepted, Refused}
-use Rattle.image.proofs.Rules.{carries, value-here, child-here}
-use Rattle.image.proofs.Kept.{good-head, good-tag, good-length, good-body, good-value}
-use Rattle.image.proofs.Passing.{next-at, first-at}
-use Rattle.image.proofs.Reading.{covers-more, agree-value, agree-children, agree-node}
+use Rattle.rows.proofs.Rules.{carries, value-here, child-here}
+use Rattle.rows.proofs.Kept.{good-head, good-tag, good-length, good-body, good-value}
+use Rattle.rows.proofs.Standing.{next-at, first-at}
+use Rattle.rows.proofs.Reading.{covers-more, agree-value, agree-children}
+use Rattle.nodes.proofs.Reading.{agree-node}
 use Rattle.image.proofs.Reasons.{refused-when, when-refused, when-accepted, accepted-when}
 
 -- a and c stand before the same rest; c is d bytes longer

@@ -11,11 +11,11 @@ use borrow.Author.Tests.{ltb-true, ltb-false, leb-true, leb-false, not-true, not
 use Rattle.runs.specs.Lines.{power}
 use Rattle.runs.specs.Nodes.{depth, visits}
 use Rattle.schedule.specs.Said.{said}
-use Rattle.image.specs.Fields.{tagOk, lengthOk, valueOk, childrenOk, fieldOf}
-use Rattle.image.specs.Nodes.{fieldAt, linesOf, treeAt}
-use Rattle.image.specs.Judged.{onField, scanFrom, scan, wholeOf, onEnd, judged}
-use Rattle.image.specs.Conditions.{tagAt, lengthAt, bodyAt, UpToTag, UpToValue, GoodField, Passed, Complete, Condition, head-cut, wrong-tag, one-more, wrong-length, body-cut, wrong-value, not-below, no-node, too-deep, too-long, too-wide, Accepting}
-use Rattle.image.specs.declared.Refusal.{Refusal}
+use Rattle.rows.specs.Tests.{tagOk, lengthOk, valueOk, childrenOk}
+use Rattle.image.specs.Judged.{fieldOf, onField, scanFrom, scan, wholeOf, onEnd, judged}
+use Rattle.rows.specs.Fields.{fieldAt, tagAt, lengthAt, bodyAt, UpToTag, UpToValue, GoodField, Passed}
+use Rattle.nodes.specs.Nodes.{linesOf, treeAt}
+use Rattle.image.specs.Conditions.{Complete, Condition, head-cut, wrong-tag, one-more, wrong-length, body-cut, wrong-value, not-below, no-node, too-deep, too-long, too-wide, Accepting}
 use Rattle.image.specs.declared.Refusal.the-variants.{Cut, Tag, Full, Length, Value, Forward, Unfinished, Deep, Long, Lines}
 use Rattle.image.specs.declared.fields.Judgement.{Judgement}
 use Rattle.image.specs.declared.fields.Judgement.the-variants.{Good, Bad}
@@ -23,8 +23,8 @@ use Rattle.image.specs.declared.fields.End.{End}
 use Rattle.image.specs.declared.fields.End.the-variants.{Stopped, Whole}
 use Rattle.image.specs.declared.Verdict.{Verdict}
 use Rattle.image.specs.declared.Verdict.the-variants.{Accepted, Refused}
-use Rattle.image.proofs.Rules.{fails, tag-here, length-here, value-here, child-here}
-use Rattle.image.proofs.Passing.{next-at, first-at, few, inside, passed-more}
+use Rattle.rows.proofs.Rules.{fails, tag-here, length-here, value-here, child-here}
+use Rattle.rows.proofs.Standing.{next-at, first-at, few, inside, passed-more}
 
 by-cond : {A : Type 0} (P : A → Type 0) (b : Bool) (x y : A) → (b ≡ true → P x) → (b ≡ false → P y) → P (cond b x y)
 by-cond P true x y f g = f refl

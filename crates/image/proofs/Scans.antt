@@ -8,14 +8,15 @@ use native.Mathlib.Numerals.{add-one}
 use native.Mathlib.Omega.{arith}
 use lib.ListN.{length, getD, set, length-set, replicate, length-replicate}
 use lib.Seq.{getD-set-same, getD-set-other}
-use Rattle.image.specs.Fields.{fieldOf}
-use Rattle.image.specs.Nodes.{fieldAt}
-use Rattle.image.specs.Conditions.{GoodField, Passed}
-use Rattle.image.specs.Inner.{Placed, Scanned}
+use Rattle.image.specs.Judged.{fieldOf}
+use Rattle.rows.specs.Fields.{fieldAt, GoodField, Passed}
+use Rattle.nodes.specs.Fine.{Placed}
+use Rattle.image.specs.Inner.{Scanned}
 use Rattle.image.specs.declared.Refusal.{Refusal}
 use Rattle.image.specs.declared.fields.Judgement.the-variants.{Good, Bad}
 use Rattle.image.specs.declared.fields.End.the-variants.{Stopped, Whole}
-use Rattle.image.proofs.Passing.{first-at, inside, passed-more, stops, ends}
+use Rattle.rows.proofs.Standing.{first-at, inside, passed-more}
+use Rattle.image.proofs.Passing.{stops, ends}
 use Rattle.image.proofs.Says.{FieldSays, field-says}
 
 -- what is known where the field with `index` fields before it should stand

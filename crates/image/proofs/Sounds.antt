@@ -12,21 +12,25 @@ use Rattle.runs.specs.Exact.{InRange, ValidTask}
 use Rattle.runs.proofs.Unlined.{exit-exact}
 use Rattle.bytes.specs.Bytes.{byteAt}
 use Rattle.schedule.specs.Said.{said, Ranged}
-use Rattle.image.specs.Nodes.{fieldAt, nodeOf, meant, nodeAt, startsOf, taskOf}
+use Rattle.rows.specs.Fields.{fieldAt, lengthAt, bodyAt, GoodField}
+use Rattle.nodes.specs.Nodes.{nodeOf, meant, nodeAt}
+use Rattle.image.specs.Tasks.{startsOf, taskOf}
 use Rattle.image.specs.Judged.{judged}
-use Rattle.image.specs.Rules.{Starts}
-use Rattle.image.specs.Conditions.{lengthAt, bodyAt, GoodField, Accepting}
-use Rattle.image.specs.Promise.{Fine, Sound, Standing}
-use Rattle.image.specs.declared.nodes.Node.{Node}
-use Rattle.image.specs.declared.nodes.Node.the-variants.{Plain, Bus as Block, Once, Sequence, Branch, Loop}
+use Rattle.rows.specs.Rules.{Starts}
+use Rattle.image.specs.Conditions.{Accepting}
+use Rattle.nodes.specs.Fine.{Fine, Standing}
+use Rattle.image.specs.Promise.{Sound}
+use Rattle.nodes.specs.declared.Node.{Node}
+use Rattle.nodes.specs.declared.Node.the-variants.{Plain, Bus as Block, Once, Sequence, Branch, Loop}
 use Rattle.image.specs.declared.Outline.{Outline}
 use Rattle.image.specs.declared.Verdict.the-variants.{Accepted}
-use Rattle.image.proofs.Lists.{words-some, is-listed}
-use Rattle.image.proofs.Passing.{few, fewer, inside}
-use Rattle.image.proofs.Kept.{node-fine, first-fine, starts-count, starts-fine}
+use Rattle.nodes.proofs.Lists.{words-some, is-listed}
+use Rattle.rows.proofs.Standing.{few, fewer, inside}
+use Rattle.nodes.proofs.Kept.{node-fine}
+use Rattle.rows.proofs.Kept.{first-fine, starts-count, starts-fine}
 use Rattle.schedule.proofs.Sayings.{said-lawful, said-small}
-use Rattle.image.proofs.Levels.{falls}
-use Rattle.image.proofs.Fetches.{lines-few, no-lines}
+use Rattle.nodes.proofs.Levels.{falls}
+use Rattle.nodes.proofs.Fetches.{lines-few, no-lines}
 use Rattle.image.proofs.Reasons.{when-accepted}
 
 module _ (s : List ℕ) (t : Outline) (a : Accepting s t) where

@@ -15,19 +15,20 @@ use Rattle.runs.proofs.Whole.{node-valid}
 use Rattle.bus.specs.Owning.{owns, busMeant}
 use Rattle.bytes.specs.Bytes.{wordAt}
 use Rattle.schedule.specs.Said.{said}
-use Rattle.image.specs.Nodes.{nodeOf, meant, kindMeant, treeAt, childTrees, taskOf}
-use Rattle.image.specs.Promise.{Fine, Standing}
+use Rattle.nodes.specs.Nodes.{nodeOf, meant, kindMeant, treeAt, childTrees}
+use Rattle.image.specs.Tasks.{taskOf}
+use Rattle.nodes.specs.Fine.{Fine, Standing}
 use Rattle.image.specs.Walks.{Walkable, Named}
 use Rattle.image.specs.declared.Walk.{Walk}
-use Rattle.image.specs.declared.nodes.Node.the-variants.{Plain, Bus as Block, Once, Sequence, Branch, Loop}
-use Rattle.image.specs.declared.nodes.Plain.{Plain as PlainNumbers}
-use Rattle.image.specs.declared.nodes.BusBlock.{BusBlock}
-use Rattle.image.specs.declared.nodes.Once.{Once as OnceNumbers}
-use Rattle.image.specs.declared.nodes.Children.{Children}
-use Rattle.image.specs.declared.nodes.Loop.{Loop as LoopNumbers}
-use Rattle.image.proofs.Lists.{words-step, words-none}
-use Rattle.image.proofs.Levels.{inside-here, few-here, fine-here, node-here, tree-here}
-use Rattle.image.proofs.Fetches.{line-below}
+use Rattle.nodes.specs.declared.Node.the-variants.{Plain, Bus as Block, Once, Sequence, Branch, Loop}
+use Rattle.nodes.specs.declared.Plain.{Plain as PlainNumbers}
+use Rattle.nodes.specs.declared.BusBlock.{BusBlock}
+use Rattle.nodes.specs.declared.Once.{Once as OnceNumbers}
+use Rattle.nodes.specs.declared.Children.{Children}
+use Rattle.nodes.specs.declared.Loop.{Loop as LoopNumbers}
+use Rattle.nodes.proofs.Lists.{words-step, words-none}
+use Rattle.nodes.proofs.Levels.{inside-here, few-here, fine-here, node-here, tree-here}
+use Rattle.nodes.proofs.Fetches.{line-below}
 use Rattle.image.proofs.Sounds.{standing}
 
 -- ---- children: child i, and those after it

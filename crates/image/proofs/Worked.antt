@@ -8,9 +8,10 @@ use Rattle.runs.specs.Lines.{power}
 use Rattle.runs.specs.Nodes.{trees, treeBy, treeTo, tree, depth, visits, linesTo}
 use Rattle.bytes.specs.Bytes.{wordAt, words}
 use Rattle.schedule.specs.Said.{busOk, turnsAt, turnsOk, named, scheduleOk, said}
-use Rattle.image.specs.Fields.{tagOk, nodeLengthOk, lengthOk, startsOk, plainOk, accessOk, blockOk, onceOk, loopOk, nodeValueOk, valueOk, below, childrenOk, fieldOf}
-use Rattle.image.specs.Nodes.{fieldAt, nodeFrom, meant, nodeAt}
-use Rattle.image.specs.Judged.{scanFrom, scan, wholeOf, judged, refused, outcome}
+use Rattle.rows.specs.Tests.{tagOk, nodeLengthOk, lengthOk, startsOk, plainOk, accessOk, blockOk, onceOk, loopOk, nodeValueOk, valueOk, below, childrenOk}
+use Rattle.image.specs.Judged.{fieldOf, scanFrom, scan, wholeOf, judged, refused, outcome}
+use Rattle.rows.specs.Fields.{fieldAt}
+use Rattle.nodes.specs.Nodes.{nodeFrom, meant, nodeAt}
 use Rattle.image.specs.declared.Verdict.the-variants.{Accepted}
 
 -- "An empty image gives 7 at place 0"; one byte is a cut head.

@@ -7,52 +7,15 @@ use Prim.Native.Nat.{ℕ, suc, _+_, _-_, _*_, _≤_, _<_}
 use lib.ListN.{length}
 use Rattle.runs.specs.Lines.{power}
 use Rattle.runs.specs.Nodes.{depth, visits}
-use Rattle.bytes.specs.Bytes.{byteAt, wordAt}
 use Rattle.schedule.specs.Said.{said}
-use Rattle.image.specs.Rules.{TagRule, LengthRule, ValueRule, ChildRule}
-use Rattle.image.specs.Nodes.{fieldAt, linesOf, treeAt}
+use Rattle.rows.specs.Rules.{TagRule, LengthRule, ValueRule, ChildRule}
+use Rattle.rows.specs.Fields.{fieldAt, tagAt, lengthAt, bodyAt, UpToHead, UpToTag, UpToRoom, UpToLength, UpToBody, UpToValue, Passed}
+use Rattle.nodes.specs.Nodes.{linesOf, treeAt}
 use Rattle.image.specs.declared.Outline.{Outline}
 use Rattle.image.specs.declared.Refusal.{Refusal}
 use Rattle.image.specs.declared.Refusal.the-variants.{Cut, Tag, Full, Length, Value, Forward, Unfinished, Deep, Long, Lines}
 
--- of the field with k fields before it: its tag, the length of its body, and where the body stands
-abbrev pub tagAt : List ℕ → ℕ → ℕ
-tagAt s k = byteAt s (fieldAt s k)
-
-abbrev pub lengthAt : List ℕ → ℕ → ℕ
-lengthAt s k = wordAt s (fieldAt s k + 1)
-
-abbrev pub bodyAt : List ℕ → ℕ → ℕ
-bodyAt s k = fieldAt s k + 3
-
--- how far it has passed, in the order in which a field is judged: its head stands, its tag may stand there, it is no 257th node field, its length is in
--- the tag's row, its body stands, and its numbers keep the row's rules
-abbrev pub UpToHead : List ℕ → ℕ → Type 0
-UpToHead s k = fieldAt s k + 3 ≤ length s
-
-abbrev pub UpToTag : List ℕ → ℕ → Type 0
-UpToTag s k = UpToHead s k × TagRule k (tagAt s k)
-
-abbrev pub UpToRoom : List ℕ → ℕ → Type 0
-UpToRoom s k = UpToTag s k × (k < 258)
-
-abbrev pub UpToLength : List ℕ → ℕ → Type 0
-UpToLength s k = UpToRoom s k × LengthRule (tagAt s k) (lengthAt s k)
-
-abbrev pub UpToBody : List ℕ → ℕ → Type 0
-UpToBody s k = UpToLength s k × (bodyAt s k + lengthAt s k ≤ length s)
-
-abbrev pub UpToValue : List ℕ → ℕ → Type 0
-UpToValue s k = UpToBody s k × ValueRule s (tagAt s k) (bodyAt s k) (lengthAt s k)
-
--- none of 1 to 6 holds of it: its child numbers, where it has some, are below the node's own, which is k - 2
-abbrev pub GoodField : List ℕ → ℕ → Type 0
-GoodField s k = UpToValue s k × ChildRule s (tagAt s k) (bodyAt s k) (lengthAt s k) (k - 2)
-
--- the n fields from the front are good; and they fill the image
-abbrev pub Passed : List ℕ → ℕ → Type 0
-Passed s n = (k : ℕ) → k < n → GoodField s k
-
+-- the n fields from the front are good, and they fill the image
 pub record Complete (s : List ℕ) (n : ℕ) : Type 0 where
   pub passed : Passed s n
   pub ends : fieldAt s n ≡ length s

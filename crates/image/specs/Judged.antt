@@ -1,6 +1,7 @@
 -- The verdict on an image (document 01, "When no figure is given"): fields from the front, then 7, 8, 9 and 18. Definitions only.
 use mathlib.Core.Bool.{cond}
 use mathlib.Core.List.{List}
+use mathlib.Core.Bool.{not}
 use Prim.Native.Nat.{ℕ, zero, suc, _+_, _-_, _*_}
 use Prim.Native.String.{String}
 use lib.ListN.{length}
@@ -8,10 +9,12 @@ use lib.Dec.{leb, ltb}
 use Rattle.runs.specs.Lines.{power}
 use Rattle.runs.specs.Nodes.{depth, visits}
 use Rattle.runs.specs.Runs.{Task}
-use Rattle.bytes.specs.Bytes.{wordAt}
+use Rattle.bytes.specs.Bytes.{byteAt, wordAt}
 use Rattle.schedule.specs.Said.{said}
-use Rattle.image.specs.Fields.{fieldOf}
-use Rattle.image.specs.Nodes.{fieldAt, treeAt, linesOf, taskOf}
+use Rattle.rows.specs.Tests.{tagOk, lengthOk, valueOk, childrenOk}
+use Rattle.rows.specs.Fields.{fieldAt}
+use Rattle.nodes.specs.Nodes.{treeAt, linesOf}
+use Rattle.image.specs.Tasks.{taskOf}
 use Rattle.image.specs.declared.Refusal.{Refusal}
 use Rattle.image.specs.declared.Refusal.the-variants.{Cut, Tag, Full, Length, Value, Forward, Unfinished, Deep, Long, Table, Register, Busy, Forbidden, Lines, Block}
 use Rattle.image.specs.declared.fields.Judgement.{Judgement}
@@ -20,6 +23,19 @@ use Rattle.image.specs.declared.fields.End.{End}
 use Rattle.image.specs.declared.fields.End.the-variants.{Stopped, Whole}
 use Rattle.image.specs.declared.Verdict.{Verdict}
 use Rattle.image.specs.declared.Verdict.the-variants.{Accepted, Refused}
+
+-- "Within one the order is: head cut, 2, 3, 4, body cut, 5, 6." The field at a place, `index` fields standing before it; a good
+-- one gives the place of the next. The node fields are those from index 2 on, so the 257th has index 258.
+unfoldable pub fieldOf : List ℕ → ℕ → ℕ → Judgement
+fieldOf s at index =
+    cond (ltb (length s - at) 3) (Bad Cut)
+    (cond (not (tagOk index (byteAt s at))) (Bad Tag)
+    (cond (leb 258 index) (Bad Full)
+    (cond (not (lengthOk (byteAt s at) (wordAt s (at + 1)))) (Bad Length)
+    (cond (ltb (length s - at - 3) (wordAt s (at + 1))) (Bad Cut)
+    (cond (not (valueOk s (byteAt s at) (at + 3) (wordAt s (at + 1)))) (Bad Value)
+    (cond (not (childrenOk s (byteAt s at) (at + 3) (wordAt s (at + 1)) index)) (Bad Forward)
+    (Good (at + 3 + wordAt s (at + 1)))))))))
 
 -- "Number"; those above 10 are new numbers of document 02
 abbrev pub numberOf : Refusal → ℕ

@@ -1,6 +1,4 @@
-pub mod Rules
-pub mod Fields
-pub mod Nodes
+pub mod Tasks
 pub mod Judged
 pub mod Conditions
 pub mod Promise

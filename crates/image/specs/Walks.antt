@@ -6,8 +6,8 @@ use Rattle.runs.specs.Bus.{SameBus}
 use Rattle.runs.specs.Exact.{ValidTask}
 use Rattle.bus.specs.Owning.{busMeant, Fit}
 use Rattle.schedule.specs.Said.{said}
-use Rattle.image.specs.Rules.{NamesBelow}
-use Rattle.image.specs.Nodes.{taskOf}
+use Rattle.rows.specs.Rules.{NamesBelow}
+use Rattle.image.specs.Tasks.{taskOf}
 use Rattle.image.specs.Promise.{Sound}
 use Rattle.image.specs.declared.Walk.{Walk}
 

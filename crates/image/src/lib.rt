@@ -5,29 +5,25 @@
 // condition of that row of the table holds there; and an accepted image keeps every rule of its rows, with the place of each node
 // beside the verdict. For a refused image the places are left free.
 //
-// specs/ has the definitions, in the document's order: Fields (the rows, and numbers 1 to 6; field 1's are in crate schedule), Nodes (what a node field means
-// to crate `runs`), Judged (7 to 9 and 18, and the verdict), Conditions (the table, row by row), Promise; Inner is between functions of this
-// crate.
-// src/: read (bytes, and the bus), rows (the rows' rules), fields (the scan), nodes (decoding), weigh (depth and visits), fetched (lines), and the verdict here.
+// specs/ has the definitions, in the document's order: Tasks (the task that an image's bytes say), Judged (a field, the scan, 7 to 9 and 18, and the
+// verdict), Conditions (the table, row by row), Promise; Inner is between functions of this crate. The rows' rules are in crate rows, what a node field means
+// to crate `runs` in crate nodes, field 1's rules in crate schedule.
+// src/: fields (one field, and the scan), and the verdict here.
 ghost use mathlib.Core.Path.{_≡_};
 ghost use Rattle.image.specs.Judged.{wholeOf, numberOf};
 ghost use Rattle.image.specs.Conditions.{Complete};
 ghost use Rattle.image.specs.Promise.{Judging};
-ghost use Rattle.image.specs.Inner.{Placed};
-use crate::fetched::lines;
-use crate::fetched::power;
+ghost use Rattle.nodes.specs.Fine.{Placed};
 use crate::fields::End;
 use crate::fields::fields;
-use crate::weigh::weights;
 use bus::Bus;
 use bytes::word;
+use nodes::fetched::lines;
+use nodes::fetched::power;
+use nodes::weigh::weights;
 use schedule::period_at;
 
-pub mod fetched;
 mod fields;
-pub mod nodes;
-pub mod rows;
-mod weigh;
 
 // Why there is no answer: the words of the papers' tables but 21, in one list. Judging answers the first nine and `Lines` (18); `Table` is for
 // what lends a table, `Register`, `Busy` and `Forbidden` are for calls to the arbiter (15 to 17), `Block` is for one that edits a block (19).

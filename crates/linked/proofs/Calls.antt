@@ -9,7 +9,7 @@ use lib.Seq.{take-all}
 use native.Mathlib.Omega.{arith}
 use Prim.Native.Nat.{ℕ, _≤_, _<_}
 use Rattle.bytes.specs.Bytes.{byteAt}
-use Rattle.image.specs.Nodes.{taskOf}
+use Rattle.image.specs.Tasks.{taskOf}
 use Rattle.image.specs.Judged.{Outcome, outcomeOf, outcome, numberOf}
 use Rattle.image.specs.Promise.{Judging}
 use Rattle.image.specs.declared.Refusal.{Refusal}

@@ -14,11 +14,11 @@ use Rattle.bus.specs.Owning.{busMeant}
 use Rattle.offsets.specs.declared.Set.{Set}
 use Rattle.offsets.specs.Sets.{value}
 use Rattle.bytes.specs.Bytes.{wordAt}
-use Rattle.image.specs.Nodes.{treeAt, childTrees}
+use Rattle.nodes.specs.Nodes.{treeAt, childTrees}
 use Rattle.image.specs.Walks.{Walkable, Named}
 use Rattle.image.specs.declared.Walk.{Walk}
 use Rattle.image.proofs.Walks.{all-more, any-more, walk-lawful, walk-small, valid-at}
-use Rattle.image.proofs.Levels.{visits-step}
+use Rattle.nodes.proofs.Levels.{visits-step}
 use Rattle.exits.specs.Exits.{Within}
 use Rattle.published.specs.Steps.{bits, afterAll, afterAny, Ready, Published}
 use Rattle.published.specs.declared.Outcome.{Outcome}

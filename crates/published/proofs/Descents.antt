@@ -6,14 +6,14 @@ use native.Mathlib.Omega.{arith}
 use Prim.Native.Nat.{ℕ, _≤_, _<_}
 use Rattle.runs.specs.Nodes.{Tree, visits}
 use Rattle.offsets.specs.declared.Set.{Set}
-use Rattle.image.specs.Nodes.{nodeOf, kindMeant, treeAt, childTrees}
+use Rattle.nodes.specs.Nodes.{nodeOf, kindMeant, treeAt, childTrees}
 use Rattle.image.specs.declared.Walk.{Walk}
-use Rattle.image.specs.declared.nodes.Node.the-variants.{Plain, Bus as Block, Once, Sequence, Branch, Loop}
-use Rattle.image.specs.declared.nodes.Plain.{Plain as PlainNumbers}
-use Rattle.image.specs.declared.nodes.BusBlock.{BusBlock}
-use Rattle.image.specs.declared.nodes.Once.{Once as OnceNumbers}
-use Rattle.image.specs.declared.nodes.Children.{Children}
-use Rattle.image.specs.declared.nodes.Loop.{Loop as LoopNumbers}
+use Rattle.nodes.specs.declared.Node.the-variants.{Plain, Bus as Block, Once, Sequence, Branch, Loop}
+use Rattle.nodes.specs.declared.Plain.{Plain as PlainNumbers}
+use Rattle.nodes.specs.declared.BusBlock.{BusBlock}
+use Rattle.nodes.specs.declared.Once.{Once as OnceNumbers}
+use Rattle.nodes.specs.declared.Children.{Children}
+use Rattle.nodes.specs.declared.Loop.{Loop as LoopNumbers}
 use Rattle.image.proofs.Walks.{node-place, as-plain, as-block, as-once, as-sequence, as-branch, as-loop as loop-node}
 use Rattle.exits.specs.Exits.{PlainReady, BusReady}
 use Rattle.published.specs.declared.Outcome.{Outcome}

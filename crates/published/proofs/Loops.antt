@@ -15,9 +15,9 @@ use Rattle.runs.proofs.Joins.{iterate-split, sum-same, sum-split}
 use Rattle.bus.specs.declared.Bus.{Bus}
 use Rattle.bus.specs.Owning.{busMeant}
 use Rattle.offsets.specs.declared.Set.{Set}
-use Rattle.image.specs.Nodes.{treeAt}
+use Rattle.nodes.specs.Nodes.{treeAt}
 use Rattle.image.specs.declared.Walk.{Walk}
-use Rattle.image.specs.declared.nodes.Loop.{Loop}
+use Rattle.nodes.specs.declared.Loop.{Loop}
 use Rattle.image.proofs.Walks.{walk-lawful, walk-small, valid-at}
 use Rattle.cycles.proofs.Watching.{goes-none, goes-one, goes-both, whole, skips-small, skips-watches, skips-ends}
 use Rattle.published.specs.declared.Outcome.{Outcome}

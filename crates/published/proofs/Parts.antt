@@ -16,7 +16,7 @@ use Rattle.bus.specs.declared.Bus.{Bus}
 use Rattle.bus.specs.Owning.{busMeant}
 use Rattle.offsets.specs.declared.Set.{Set}
 use Rattle.bytes.specs.Bytes.{wordAt}
-use Rattle.image.specs.Nodes.{treeAt, childTrees}
+use Rattle.nodes.specs.Nodes.{treeAt, childTrees}
 use Rattle.image.proofs.Walks.{trees-more, trees-none}
 use Rattle.exits.specs.Exits.{Within}
 use Rattle.exits.proofs.Bits.{bits-at, bits-row}

@@ -12,10 +12,10 @@ use Rattle.runs.specs.Parts.{Begun, Turned, Unrolled}
 use Rattle.bus.specs.declared.Bus.{Bus}
 use Rattle.bus.specs.Owning.{busMeant}
 use Rattle.offsets.specs.declared.Set.{Set}
-use Rattle.image.specs.Nodes.{treeAt, childTrees}
+use Rattle.nodes.specs.Nodes.{treeAt, childTrees}
 use Rattle.image.specs.Walks.{Walkable, Named}
 use Rattle.image.specs.declared.Walk.{Walk}
-use Rattle.image.specs.declared.nodes.Loop.{Loop}
+use Rattle.nodes.specs.declared.Loop.{Loop}
 use Rattle.cycles.specs.Cycles.{Small, Counts, Goes, Skips, Watches}
 use Rattle.cycles.specs.declared.Watch.{Watch}
 use Rattle.exits.specs.Exits.{bitsOf, Within, Exited}

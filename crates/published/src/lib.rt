@@ -10,7 +10,7 @@ ghost use mathlib.Core.Path.{_≡_};
 ghost use Prim.Native.Nat.{ℕ, _+_, _≤_, max};
 ghost use Rattle.runs.specs.Nodes.{Tree};
 ghost use Rattle.bus.specs.declared.Bus.{Bus};
-ghost use Rattle.image.specs.Nodes.{treeAt, childTrees, kindMeant};
+ghost use Rattle.nodes.specs.Nodes.{treeAt, childTrees, kindMeant};
 ghost use Rattle.exits.specs.Exits.{PlainReady, BusReady};
 ghost use Rattle.cycles.specs.Cycles.{Small};
 ghost use Rattle.published.specs.Steps.{Ready, ReadyAll, ReadyRepeat, ReadyLoop, Published, PublishedAll, PublishedAny, BegunAt, TurnedAt, WatchedBy, SkippedBy, Unrolls};

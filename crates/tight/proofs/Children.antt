@@ -9,10 +9,10 @@ use Rattle.runs.specs.Nodes.{Tree, visits, visitsAll}
 use Rattle.runs.specs.Figures.{Time, longer, later}
 use Rattle.runs.proofs.Joins.{longer-joins}
 use Rattle.bytes.specs.Bytes.{wordAt}
-use Rattle.image.specs.Nodes.{treeAt, childTrees}
+use Rattle.nodes.specs.Nodes.{treeAt, childTrees}
 use Rattle.image.specs.Walks.{Walkable, Named}
 use Rattle.image.proofs.Walks.{all-more, any-more, valid-at}
-use Rattle.image.proofs.Levels.{visits-step}
+use Rattle.nodes.proofs.Levels.{visits-step}
 use Rattle.image.specs.declared.Walk.{Walk}
 use Rattle.times.specs.Arrays.{tableOf, Joined}
 use Rattle.tight.specs.Steps.{sizeOf, table, Stepped, after, afterAll, afterAny, Roomy, Ready}

@@ -6,7 +6,7 @@ use Prim.Native.Nat.{ℕ, suc, _+_, _*_, _/_, _%_, _≤_, _<_}
 use Rattle.runs.specs.Lines.{power, has, add}
 use Rattle.runs.proofs.LinesLaws.{power-pos, add-in}
 use Rattle.image.specs.declared.Walk.{Walk}
-use Rattle.image.proofs.Fetches.{few-sets}
+use Rattle.nodes.proofs.Fetches.{few-sets}
 use Rattle.times.specs.Arrays.{Fits}
 use Rattle.lined.specs.Lined.{FitsFrom, RowsReady}
 use Rattle.lined.proofs.RowLaws.{half-has, row-fits}

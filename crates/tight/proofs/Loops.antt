@@ -14,9 +14,9 @@ use Rattle.runs.proofs.Cases.{split}
 use Rattle.runs.proofs.Joins.{longer-joins}
 use Rattle.runs.proofs.Loops.{unrolled-none, unrolled-one, unrolled-both}
 use Rattle.runs.proofs.Shifted.{shifted-zero, multiple, cycles-skip, times-shifted}
-use Rattle.image.specs.Nodes.{treeAt}
+use Rattle.nodes.specs.Nodes.{treeAt}
 use Rattle.image.specs.declared.Walk.{Walk}
-use Rattle.image.specs.declared.nodes.Loop.{Loop}
+use Rattle.nodes.specs.declared.Loop.{Loop}
 use Rattle.image.proofs.Walks.{valid-at}
 use Rattle.times.specs.Arrays.{tableOf, Fits}
 use Rattle.cycles.specs.declared.Watch.{Watch}

@@ -11,10 +11,10 @@ use Rattle.runs.specs.Carried.{carriedAll, carriedAny}
 use Rattle.runs.specs.Figures.{Time, longer, later, times}
 use Rattle.runs.specs.Parts.{Unrolled, shifted}
 use Rattle.bus.specs.Owning.{busMeant, Fit}
-use Rattle.image.specs.Nodes.{treeAt, childTrees}
+use Rattle.nodes.specs.Nodes.{treeAt, childTrees}
 use Rattle.image.specs.Walks.{Walkable, Named}
 use Rattle.image.specs.declared.Walk.{Walk}
-use Rattle.image.specs.declared.nodes.Loop.{Loop}
+use Rattle.nodes.specs.declared.Loop.{Loop}
 use Rattle.times.specs.Arrays.{tableOf, Fits}
 use Rattle.lined.specs.Lined.{Numbers, SteppedAll}
 use Rattle.lined.specs.declared.Step.the-variants.{Plain, Always}

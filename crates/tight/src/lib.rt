@@ -11,7 +11,7 @@
 ghost use mathlib.Core.Path.{_≡_};
 ghost use lib.ListN.{length};
 ghost use Prim.Native.Nat.{_+_, _≤_, _<_};
-ghost use Rattle.image.specs.Nodes.{treeAt, childTrees, kindMeant};
+ghost use Rattle.nodes.specs.Nodes.{treeAt, childTrees, kindMeant};
 ghost use Rattle.image.specs.declared.Walk.{Walk};
 ghost use Rattle.runs.specs.Nodes.{Tree};
 ghost use Rattle.iterations.specs.Iterations.{Empty};

@@ -9,11 +9,11 @@ use Prim.Native.Nat.{ℕ, _+_, _-_, _^_, _≤_, _<_}
 use Rattle.runs.specs.Runs.{isStart}
 use Rattle.offsets.specs.Sets.{value, has}
 use Rattle.offsets.proofs.Members.{has-none}
-use Rattle.image.specs.Conditions.{lengthAt}
+use Rattle.rows.specs.Fields.{lengthAt}
 use Rattle.bytes.specs.Bytes.{byteAt, bytes}
-use Rattle.image.specs.Nodes.{startsOf}
+use Rattle.image.specs.Tasks.{startsOf}
 use Rattle.exits.proofs.Bits.{bits-row}
-use Rattle.image.proofs.Lists.{listed-more}
+use Rattle.nodes.proofs.Lists.{listed-more}
 use Rattle.figures.proofs.OneMore.{has-more, more-lt}
 use Rattle.figures.proofs.start_set.Statement.{statement}
 use Rattle.figures.proofs.start_set.Tie as tie

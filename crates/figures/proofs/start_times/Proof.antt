@@ -12,9 +12,9 @@ use Prim.Native.Nat.{ℕ, _+_, _-_, _≤_, _<_}
 use Rattle.runs.specs.Runs.{isStart}
 use Rattle.runs.specs.Figures.{noTime}
 use Rattle.runs.proofs.Cases.{either}
-use Rattle.image.specs.Conditions.{lengthAt}
+use Rattle.rows.specs.Fields.{lengthAt}
 use Rattle.bytes.specs.Bytes.{byteAt, bytes}
-use Rattle.image.proofs.Lists.{listed-more}
+use Rattle.nodes.proofs.Lists.{listed-more}
 use Rattle.figures.proofs.start_times.Statement.{statement}
 use Rattle.figures.proofs.start_times.Tie as tie
 

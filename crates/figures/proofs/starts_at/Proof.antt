@@ -1,7 +1,7 @@
 -- Field 1 has three bytes before its body, and so has field 2.
 use native.Mathlib.Omega.{arith}
 use borrow.Author.Needs.{needs}
-use Rattle.image.proofs.Kept.{first-end}
+use Rattle.rows.proofs.Kept.{first-end}
 use Rattle.figures.proofs.starts_at.Statement.{statement}
 use Rattle.figures.proofs.starts_at.Tie as tie
 

@@ -4,14 +4,14 @@ use Rattle.image.proofs.whole.Statement.{statement}
 use Rattle.image.proofs.whole.Tie as tie
 use Rattle.runs.specs.Nodes.{depth, visits}
 use Rattle.bytes.specs.Bytes.{wordAt}
-use Rattle.image.specs.Nodes.{fieldAt, treeAt, linesOf}
-use Rattle.image.proofs.Kept.{first-end, first-fine}
+use Rattle.rows.specs.Fields.{fieldAt, Passed}
+use Rattle.nodes.specs.Nodes.{treeAt, linesOf}
+use Rattle.rows.proofs.Kept.{first-end, first-fine}
 use Rattle.image.specs.Judged.{wholeOf}
 use Rattle.runs.specs.Lines.{power}
 use Rattle.schedule.specs.Said.{said}
-use Rattle.image.specs.Conditions.{Passed}
 use Rattle.schedule.proofs.Numbers.{product-fits}
-use Rattle.image.proofs.Fetches.{lines-few, few-sets}
+use Rattle.nodes.proofs.Fetches.{lines-few, few-sets}
 use mathlib.Core.Path.{_≡_, _∙_, ap}
 use mathlib.Core.List.{List}
 use Prim.Native.Nat.{ℕ, _+_, _-_, _*_, _≤_, _<_}

@@ -8,7 +8,7 @@ use Rattle.runs.specs.Nodes.{visitsAll}
 use Rattle.runs.specs.Figures.{costAll, costAny}
 use Rattle.runs.proofs.Joins.{or-joins}
 use Rattle.bus.specs.Owning.{busMeant}
-use Rattle.image.specs.Nodes.{treeAt, childTrees}
+use Rattle.nodes.specs.Nodes.{treeAt, childTrees}
 use Rattle.image.proofs.Walks.{all-done, any-done}
 use Rattle.exits.specs.Exits.{Within}
 use Rattle.published.specs.Steps.{bits, afterAll, afterAny}

@@ -8,7 +8,7 @@ use native.Mathlib.Nat.{add-zero, sub-zero}
 use Rattle.runs.specs.Nodes.{visitsAll}
 use Rattle.runs.specs.Figures.{Time, longer, later}
 use Rattle.runs.proofs.Joins.{longer-joins}
-use Rattle.image.specs.Nodes.{treeAt, childTrees}
+use Rattle.nodes.specs.Nodes.{treeAt, childTrees}
 use Rattle.image.proofs.Walks.{all-done, any-done}
 use Rattle.tight.specs.Steps.{sizeOf, table, afterAll, afterAny, Roomy}
 use Rattle.iterations.proofs.Exits.{nothing}

@@ -2,8 +2,8 @@
 use borrow.Author.Needs.{needs}
 use Rattle.image.proofs.fields.field.Statement.{statement}
 use Rattle.image.proofs.fields.field.Tie as tie
-use Rattle.image.specs.Fields.{fieldOf}
-use Rattle.image.proofs.Kept.{later-field}
+use Rattle.image.specs.Judged.{fieldOf}
+use Rattle.rows.proofs.Kept.{later-field}
 use mathlib.Core.Path.{sym, _∙_}
 use borrow.Author.Tests.{le-leb, lt-leb, lt-ltb, le-ltb, not-true, not-false}
 

@@ -1,8 +1,8 @@
 -- The invariant, `Here` of proofs/Scans.antt: every field passed is good, and its place is stored. What is left of the image falls.
 use Rattle.image.proofs.fields.fields.Statement.{statement}
 use Rattle.image.proofs.fields.fields.Tie as tie
-use Rattle.image.proofs.Passing.{next-at}
-use Rattle.image.proofs.Kept.{good-room, good-body, first-fine}
+use Rattle.rows.proofs.Standing.{next-at}
+use Rattle.rows.proofs.Kept.{good-room, good-body, first-fine}
 use Rattle.image.proofs.Scans.{Here, here-first, here-good, here-next, placed-more, placed-none, here-stopped, here-whole}
 use mathlib.Core.Path.{sym, _∙_}
 use mathlib.Core.Logic.{⊎-elim}

@@ -1,0 +1,46 @@
+-- The node of a good field keeps the rules of its row.
+use mathlib.Core.Path.{_≡_}
+use mathlib.Core.List.{List}
+use Prim.Native.Nat.{ℕ, _+_, _-_, _/_, _≤_}
+use native.Mathlib.Omega.{arith}
+use lib.ListN.{length}
+use Rattle.rows.specs.Rules.{LengthRule, Durations, ValueRule, NamesBelow, ChildRule}
+use Rattle.rows.specs.Fields.{fieldAt, tagAt, lengthAt, bodyAt, GoodField}
+use Rattle.nodes.specs.Nodes.{nodeFrom, nodeOf}
+use Rattle.nodes.specs.Fine.{Fine}
+use Rattle.rows.proofs.Kept.{good-length, good-body, good-value}
+
+-- for the node `own` whose body of n bytes stands at b
+module _ (s : List ℕ) (b own : ℕ) where
+  parent-fine : (t n : ℕ) → b + n ≤ length s → 5 ≤ t → t ≤ 6 → NamesBelow s b (n / 2) own → LengthRule t n → Fine s own (nodeFrom s t b n)
+  unfolding nodeFrom Fine
+  parent-fine t n inside lo hi c (LengthRule.sequence e l h (m, w)) = rw e (omega arith, omega arith, omega arith, c)
+  parent-fine t n inside lo hi c (LengthRule.branch e l h (m, w)) = rw e (omega arith, omega arith, omega arith, c)
+  parent-fine t n inside lo hi c (LengthRule.bus e l) = absurd (omega arith)
+  parent-fine t n inside lo hi c (LengthRule.starts e l h) = absurd (omega arith)
+  parent-fine t n inside lo hi c (LengthRule.plain e l) = absurd (omega arith)
+  parent-fine t n inside lo hi c (LengthRule.block e l) = absurd (omega arith)
+  parent-fine t n inside lo hi c (LengthRule.loop e l) = absurd (omega arith)
+  parent-fine t n inside lo hi c (LengthRule.schedule e l h (m, w)) = absurd (omega arith)
+  parent-fine t n inside lo hi c (LengthRule.once e l) = absurd (omega arith)
+
+  -- no other tag is a node's, and then there is nothing to keep
+  nothing : Durations 0 0
+  nothing = record { most = omega arith; order = omega arith; near = omega arith }
+
+  fine-by : (t n : ℕ) → b + n ≤ length s → LengthRule t n → ChildRule s t b n own → ValueRule s t b n → Fine s own (nodeFrom s t b n)
+  unfolding nodeFrom Fine
+  fine-by t n inside l c (ValueRule.plain e h) = rw e h
+  fine-by t n inside l c (ValueRule.block e k h) = rw e h
+  fine-by t n inside l c (ValueRule.children lo hi) = parent-fine t n inside lo hi (c .children lo hi) l
+  fine-by t n inside l c (ValueRule.loop e h) = rw e (h, c .loop e)
+  fine-by t n inside l c (ValueRule.once e h) = rw e h
+  fine-by t n inside l c (ValueRule.bus e h) = rw e nothing
+  fine-by t n inside l c (ValueRule.starts e h) = rw e nothing
+  fine-by t n inside l c (ValueRule.schedule e h) = rw e nothing
+
+pub node-fine : (s : List ℕ) (own : ℕ) → GoodField s (own + 2) → Fine s own (nodeOf s (fieldAt s (own + 2)))
+node-fine s own g =
+    let k = own + 2 in
+    let e : k - 2 ≡ own = omega arith in
+    fine-by s (bodyAt s k) own (tagAt s k) (lengthAt s k) (good-body s k g) (good-length s k g) (rw e at (g .1)) (good-value s k g)

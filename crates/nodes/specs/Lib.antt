@@ -1,0 +1,3 @@
+pub mod Nodes
+pub mod Fine
+pub mod Weights

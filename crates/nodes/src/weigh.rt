@@ -1,0 +1,126 @@
+// Depth and visits, node by node from the front: a child's number is smaller, so its own are known. Numbers above the limits are
+// held as the limit and one more, which decides the same and never overflows.
+ghost use mathlib.Core.Path.{_≡_};
+ghost use Prim.Native.Nat.{_+_, _-_, _*_, _≤_, _<_, min, max};
+ghost use Rattle.rows.specs.Fields.{Passed};
+ghost use Rattle.rows.specs.Rules.{NamesBelow};
+ghost use Rattle.nodes.specs.Fine.{Standing, Placed};
+ghost use Rattle.nodes.specs.Weights.{Weighed, Together, Weighs};
+use crate::Node;
+use crate::node_at;
+use bytes::word;
+
+pub struct Weight {
+    pub depth: usize,
+    pub visits: usize,
+}
+
+pub fn larger(a: usize, b: usize) -> usize
+    ensures { λ r. ⌜ r ≡ max a b ⌝ }
+{
+    if a < b { b } else { a }
+}
+
+fn at_most(cap: usize, x: usize) -> usize
+    ensures { λ r. ⌜ r ≡ min cap x ⌝ }
+{
+    if cap < x { cap } else { x }
+}
+
+// The `count` children of node n whose numbers stand from a place on: their greatest depth, up to 25, and their visits together, exact
+// up to 100,000. The tables have those of the nodes before n.
+fn over_children(
+    image: &[u8],
+    place: usize,
+    count: usize,
+    n: usize,
+    depths: &[usize; 256],
+    visits: &[usize; 256],
+) -> Weight
+    requires { ⌜ (place + 2 * count < 18446744073709551615) × (count ≤ 16) × (n ≤ 256) × (NamesBelow (now image) place count n) × (Weighed (now image) n (now depths) (now visits)) ⌝ }
+    ensures { λ r. ⌜ Together (now (image .entry)) place count r ⌝ }
+{
+    let mut best = 0;
+    let mut sum = 0;
+    let mut i = 0;
+    while i < count {
+        let child = word(image, place + 2 * i);
+        best = larger(best, depths[child]);
+        sum += visits[child];
+        i += 1;
+    }
+    Weight {
+        depth: best,
+        visits: sum,
+    }
+}
+
+// A node over children that weigh w together: one level deeper, and one visit more.
+fn above(w: Weight) -> Weight
+    requires { ⌜ (w .depth ≤ 25) × (w .visits ≤ 1000010000) ⌝ }
+    ensures { λ r. ⌜ (r .depth ≡ min 25 (1 + w .depth)) × (r .visits ≡ min 100001 (1 + w .visits)) ⌝ }
+{
+    Weight {
+        depth: at_most(25, 1 + w.depth),
+        visits: at_most(100001, 1 + w.visits),
+    }
+}
+
+// Depth and visits of node n, whose field stands at a place; the tables have those of the nodes before it.
+fn weight_of(
+    image: &[u8],
+    at: usize,
+    n: usize,
+    depths: &[usize; 256],
+    visits: &[usize; 256],
+) -> Weight
+    requires { ⌜ (Standing (now image) n at) × (Weighed (now image) n (now depths) (now visits)) ⌝ }
+    ensures { λ r. ⌜ Weighs (now (image .entry)) n r ⌝ }
+{
+    let node = node_at(image, at);
+    match node {
+        Node::Plain(_) => above(Weight {
+            depth: 0,
+            visits: 0,
+        }),
+        Node::Bus(_) => above(Weight {
+            depth: 0,
+            visits: 0,
+        }),
+        Node::Once(_) => above(Weight {
+            depth: 0,
+            visits: 0,
+        }),
+        Node::Sequence(c) => above(over_children(image, c.place, c.count, n, depths, visits)),
+        Node::Branch(c) => above(over_children(image, c.place, c.count, n, depths, visits)),
+        Node::Loop(l) => {
+            let body = l.body;
+            above(Weight {
+                depth: depths[body],
+                visits: l.greatest * visits[body],
+            })
+        }
+    }
+}
+
+// The entry's depth, or 25, and its visits, or 100,001.
+pub fn weights(image: &[u8], places: &[usize; 256], nodes: usize) -> Weight
+    requires { ⌜ (1 ≤ nodes) × (Passed (now image) (nodes + 2)) × (Placed (now image) (nodes + 2) (now places)) ⌝ }
+    ensures { λ r. ⌜ Weighs (now (image .entry)) (nodes - 1) r ⌝ }
+{
+    let mut depths = [0usize; 256];
+    let mut visits = [0usize; 256];
+    let mut n = 0;
+    while n < nodes {
+        let at = places[n];
+        let w = weight_of(image, at, n, &depths, &visits);
+        depths[n] = w.depth;
+        visits[n] = w.visits;
+        n += 1;
+    }
+    let entry = nodes - 1;
+    Weight {
+        depth: depths[entry],
+        visits: visits[entry],
+    }
+}

@@ -1,0 +1,5 @@
+pub mod Lists
+pub mod Rules
+pub mod Kept
+pub mod Standing
+pub mod Reading
