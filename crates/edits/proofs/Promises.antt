@@ -4,7 +4,7 @@ use mathlib.Core.Bool.{Bool, true, false, cond}
 use mathlib.Core.List.{List}
 use lib.ListN.{length}
 use lib.Dec.{ltb}
-use borrow.Author.Tests.{lt-ltb, le-ltb, ltb-true}
+use borrow.Author.Tests.{lt-ltb, ltb-true}
 use native.Mathlib.Omega.{arith}
 use Prim.Native.Nat.{ℕ, _+_, _≤_, _<_}
 use Rattle.runs.proofs.Cases.{split}
@@ -22,7 +22,7 @@ use Rattle.edits.specs.declared.Found.{Found}
 use Rattle.edits.specs.declared.Found.the-variants.{At, Refused as NotFound}
 use Rattle.edits.specs.declared.Edited.the-variants.{Done, Refused as NotDone}
 use Rattle.edits.specs.Edits.{withDurations, imageWith, found}
-use Rattle.edits.specs.Promise.{Editable, PreviewCondition, no-edit, short-table, Editing, Leaves, EditDone, Previewing, Foreseen, PreviewGiven}
+use Rattle.edits.specs.Promise.{Editable, PreviewCondition, no-edit, short-table, Editing, Leaves, EditDone, Previewing, PreviewGiven}
 use Rattle.edits.specs.Steps.{Finding}
 use Rattle.edits.proofs.Standing.{long, still-accepted}
 use Rattle.edits.proofs.Laws.{leaves}
@@ -165,14 +165,12 @@ module _ (s : List ℕ) (node lo hi : ℕ) (f : Found) (h : Finding s node lo hi
         possible = λ t q. let d = when-found s node lo hi place at-place in (d, omega (arith, enough d t q));
       }
 
-      -- demands 3 and 2 of the copy are those of the edited image
-      module _ (d3 : Demand3 (withDurations s (place + 3) lo hi) r after) (d2 : Demand2 (withDurations s (place + 3) lo hi) r) where
-        pub given-foreseen : PreviewGiven s node lo hi before r after
-        given-foreseen d l =
-            by-answer r refl (rw (le-ltb (length before) (d .outline .period) (omega (arith, l))) at (answered d))
-          where
-            by-answer : (x : Answer) → r ≡ x → resultOf x ≡ figuresOf (taskOf (imageWith s node lo hi) (d .outline)) → Foreseen (imageWith s node lo hi) (d .outline) r after
-            by-answer (Given t) q w =
-                let a = still-accepted s node lo hi d in
-                record { totals = t; given = q; demand3 = (rw there at d3) (d .outline) t a q; demand2 = (rw there at d2) (d .outline) t a q }
-            by-answer (NotGiven x p) q w = absurd (let z : _≡_ {A = ℕ} 0 1 = cc in omega arith)
+    -- demands 3 and 2 of the copy are those of the edited image
+    pub given-foreseen : (before : List ℕ) (r : Answer) (after : List ℕ) → Demand3 (withDurations s (place + 3) lo hi) before r after
+        → Demand2 (withDurations s (place + 3) lo hi) before r → PreviewGiven s node lo hi before r after
+    given-foreseen before r after d3 d2 d l =
+        let a = still-accepted s node lo hi d in
+        let (t, g, runs) = (rw there at d3) (d .outline) a (omega (arith, l)) in
+        let (u, h, by) = (rw there at d2) (d .outline) a (omega (arith, l)) in
+        let same : u ≡ t = cc in
+        record { totals = t; given = g; demand3 = runs; demand2 = rw same at by }

@@ -104,8 +104,8 @@ fn fill(copy: &mut [u8], image: &[u8])
 fn on_copy(image: &[u8], at: usize, lowest: usize, highest: usize, table: &mut [u64]) -> Answer
     requires { ⌜ Room (length (now image)) at lowest highest × (length (now image) ≤ longestImage) ⌝ }
     ensures equality { λ r. ⌜ Equal (withDurations (now (image .entry)) (at + 3) lowest highest) (now (table .entry)) r (now (table .exit)) ⌝ }
-    ensures demand3 { λ r. ⌜ Demand3 (withDurations (now (image .entry)) (at + 3) lowest highest) r (now (table .exit)) ⌝ }
-    ensures demand2 { λ r. ⌜ Demand2 (withDurations (now (image .entry)) (at + 3) lowest highest) r ⌝ }
+    ensures demand3 { λ r. ⌜ Demand3 (withDurations (now (image .entry)) (at + 3) lowest highest) (now (table .entry)) r (now (table .exit)) ⌝ }
+    ensures demand2 { λ r. ⌜ Demand2 (withDurations (now (image .entry)) (at + 3) lowest highest) (now (table .entry)) r ⌝ }
 {
     let n = image.len();
     let mut copy = [0u8; LONGEST];

@@ -5,5 +5,6 @@ pub mod Entries
 pub mod Bridge
 pub mod Starting
 pub mod Answering
+pub mod Accesses
 pub mod Promises
 pub mod EitherWay

@@ -1,9 +1,10 @@
--- The three parts of the entry's promise: from a refusal by judging, and from the answer for an accepted image.
-use mathlib.Core.Path.{_≡_, sym, _∙_, subst}
+-- The three parts of the entry's promise: equality, from a refusal by judging and from the answer for an accepted image; both demands, from it alone.
+use mathlib.Core.Path.{_≡_, refl, sym, _∙_}
 use mathlib.Core.Bool.{Bool, true, false, cond}
 use mathlib.Core.List.{List}
 use lib.ListN.{length}
 use lib.Dec.{ltb}
+use borrow.Author.Tests.{le-ltb}
 use native.Mathlib.Nat.{mul-le-mul-left}
 use native.Mathlib.Omega.{arith}
 use Prim.Native.Nat.{ℕ, _≤_}
@@ -19,33 +20,23 @@ use Rattle.image.specs.declared.Verdict.{Verdict}
 use Rattle.image.specs.declared.Verdict.the-variants.{Accepted, Refused}
 use Rattle.image.proofs.Reasons.{when-accepted}
 use Rattle.image.proofs.Sounds.{ranged-kept, accepted}
-use Rattle.schedule.specs.Said.{Ranged}
-use Rattle.schedule.proofs.Sayings.{first-tag, slots-wait, turns-wait}
 use Rattle.figures.specs.declared.Totals.{Totals}
 use Rattle.figures.specs.declared.Answer.{Answer}
 use Rattle.figures.specs.declared.Answer.the-variants.{Given, Refused as NotGiven}
-use Rattle.figures.specs.Answers.{given, refused, figuresOf, filled, afterJudging, tableFor}
+use Rattle.figures.specs.Answers.{resultOf, given, refused, figuresOf, filled, afterJudging, tableFor}
 use Rattle.figures.specs.WholeRuns.{WholeRuns}
-use Rattle.figures.specs.Promise.{Equal, Demand3, Demand2, ByAlgorithms}
+use Rattle.figures.specs.Promise.{Equal, Demand3, Demand2}
 use Rattle.figures.specs.Steps.{Answerable, Answered}
 use Rattle.figures.proofs.Whole.{whole-runs}
+use Rattle.figures.proofs.Accesses.{by-algorithms}
 
 -- what judging has shown is what the figures ask
 pub answerable : (s places : List ℕ) (v : Verdict) (k : Outline) → Judging s v places → v ≡ Accepted k → Answerable s k places
 answerable s places v k j e =
     record { sound = j .sound k e; accepted = accepted s k (sym (j .is) ∙ e) }
 
--- ---- refused by judging
-
-module _ (s before : List ℕ) (r : Refusal) (place : ℕ) (e : judged s ≡ Refused r place) where
-  pub refused-equal : Equal s before (NotGiven r place) before
-  refused-equal = record { result = rw e; table = rw e }
-
-  pub refused-demand3 : Demand3 s (NotGiven r place) before
-  refused-demand3 k f a g = absurd (let z : _≡_ {A = ℕ} 0 1 = cc in omega arith)
-
-  pub refused-demand2 : Demand2 s (NotGiven r place)
-  refused-demand2 k f a g = absurd (let z : _≡_ {A = ℕ} 0 1 = cc in omega arith)
+pub refused-equal : (s before : List ℕ) (r : Refusal) (place : ℕ) → judged s ≡ Refused r place → Equal s before (NotGiven r place) before
+refused-equal s before r place e = record { result = rw e; table = rw e }
 
 -- ---- an accepted image
 
@@ -63,9 +54,6 @@ whole true t P n place before tightest most exits after e h = absurd (let z : _�
 whole false t P n place before tightest most exits after e h = record { first = cc; second = cc; third = cc; table = h }
 
 module _ (s before : List ℕ) (k : Outline) (e : judged s ≡ Accepted k) where
-  ranged : Ranged s
-  ranged = ranged-kept s k (when-accepted s k e)
-
   -- of numbers and a table that the definitions give
   totals : (tightest most exits : ℕ) (after : List ℕ) → given tightest most exits ≡ afterJudging s before (Accepted k) → after ≡ tableFor s before (Accepted k)
       → Whole (taskOf s k) (k .period) before tightest most exits after
@@ -91,23 +79,30 @@ module _ (s before : List ℕ) (k : Outline) (e : judged s ≡ Accepted k) where
       let below = runs tightest most exits after g h .below-published in
       (omega arith, omega arith)
 
-  module _ (r : Answer) (after : List ℕ) (a : Answered s k before r after) where
-    pub given-equal : Equal s before r after
-    given-equal = record { result = rw e (a .result); table = rw e (a .table) }
+  pub given-equal : (r : Answer) (after : List ℕ) → Answered s k before r after → Equal s before r after
+  given-equal r after a = record { result = rw e (a .result); table = rw e (a .table) }
 
-    pub given-demand3 : Demand3 s r after
-    given-demand3 k' f e' g =
-        let same : k ≡ k' = cc in
-        subst (λ (x : Outline). WholeRuns (taskOf s x) (f .tight) (f .published) (f .exits) after) same
-        (runs (f .tight) (f .published) (f .exits) after (rw g at (a .result)) (a .table))
+-- ---- demands 3 and 2, from the equality alone
 
-    algorithms : (f : Totals) → r ≡ Given f → ByAlgorithms s k f
-    algorithms f g = record {
-      figure = totals (f .tight) (f .published) (f .exits) after (rw g at (a .result)) (a .table) .second;
-      wait = slots-wait s;
-      unequal-wait = turns-wait s ranged;
-      first-tag = first-tag s ranged;
-    }
+module _ (s before : List ℕ) (r : Answer) (after : List ℕ) (q : Equal s before r after) where
+  -- an accepted image with a place for each offset is given figures
+  numbers : (k : Outline) → judged s ≡ Accepted k → k .period ≤ length before
+      → (f : Totals) × (r ≡ Given f) × (given (f .tight) (f .published) (f .exits) ≡ afterJudging s before (Accepted k))
+  numbers k e room = by-answer r refl (rw e at (q .result))
+    where
+      by-answer : (x : Answer) → r ≡ x → resultOf x ≡ afterJudging s before (Accepted k)
+          → (f : Totals) × (r ≡ Given f) × (given (f .tight) (f .published) (f .exits) ≡ afterJudging s before (Accepted k))
+      by-answer (Given f) g h = (f, g, h)
+      by-answer (NotGiven x place) g h =
+          absurd (let w = rw (le-ltb (length before) (k .period) room) at h in let z : _≡_ {A = ℕ} 0 1 = cc in omega arith)
 
-    pub given-demand2 : Demand2 s r
-    given-demand2 k' f e' g = let same : k ≡ k' = cc in subst (λ (x : Outline). ByAlgorithms s x f) same (algorithms f g)
+  pub demand3 : Demand3 s before r after
+  demand3 k e room =
+      let (f, g, h) = numbers k e (omega (arith, room)) in
+      (f, g, runs s before k e (f .tight) (f .published) (f .exits) after h (rw e at (q .table)))
+
+  pub demand2 : Demand2 s before r
+  demand2 k e room =
+      let (f, g, h) = numbers k e (omega (arith, room)) in
+      let costs = totals s before k e (f .tight) (f .published) (f .exits) after h (rw e at (q .table)) .second in
+      (f, g, by-algorithms s k f (ranged-kept s k (when-accepted s k e)) costs)

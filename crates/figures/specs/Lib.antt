@@ -1,5 +1,6 @@
 pub mod Answers
 pub mod WholeRuns
+pub mod Accesses
 pub mod EitherWay
 pub mod Promise
 pub mod Steps

@@ -3,8 +3,10 @@
 // `figures` has no `requires` and promises, for every image and every table:
 //   equality  the answer and the table at exit equal definitions over the image's bytes and the table at entry (specs/Answers.antt):
 //             a refusal's number and place, the table unchanged; or both figures, the exit count and the filled table;
-//   demand3   one statement about all whole runs of an accepted image (specs/WholeRuns.antt);
-//   demand2   the published figure is that of Algorithms 1 to 3, each access waiting by Equation 7.
+//   demand3   an accepted image with a place for each offset is given figures, and one statement about all its whole runs holds of them
+//             (specs/WholeRuns.antt);
+//   demand2   the published figure is that of Algorithms 1 to 3, and each access takes the wait of Equation 7 and its own cycles
+//             (specs/Accesses.antt).
 // specs/Promise.antt has the three parts; what a run, a wait and both methods are is in crates/runs/specs.
 ghost use mathlib.Core.Path.{_≡_};
 ghost use mathlib.Core.List.{_++_};
@@ -169,8 +171,8 @@ fn given(image: &[u8], places: &[usize; 256], k: Outline, table: &mut [u64]) -> 
 // Both figures, the exit count and the table of exit offsets of a task image; or the number under which it is refused.
 pub fn figures(image: &[u8], table: &mut [u64]) -> Answer
     ensures equality { λ r. ⌜ Equal (now (image .entry)) (now (table .entry)) r (now (table .exit)) ⌝ }
-    ensures demand3 { λ r. ⌜ Demand3 (now (image .entry)) r (now (table .exit)) ⌝ }
-    ensures demand2 { λ r. ⌜ Demand2 (now (image .entry)) r ⌝ }
+    ensures demand3 { λ r. ⌜ Demand3 (now (image .entry)) (now (table .entry)) r (now (table .exit)) ⌝ }
+    ensures demand2 { λ r. ⌜ Demand2 (now (image .entry)) (now (table .entry)) r ⌝ }
 {
     let j = image::judge(image);
     let places = j.places;

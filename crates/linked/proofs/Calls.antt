@@ -3,13 +3,12 @@ use borrow.Author.Tests.{lt-ltb, le-ltb, ltb-false}
 use mathlib.Core.Path.{_≡_, refl, sym, _∙_, ap, ap₂, subst}
 use mathlib.Core.Bool.{Bool, true, false, cond}
 use mathlib.Core.List.{List, [], _∷_, _++_}
-use lib.ListN.{length, getD, take, drop, set, List·getD-append}
+use lib.ListN.{length, take, drop, set, List·getD-append}
 use lib.Dec.{ltb}
 use lib.Seq.{take-all}
 use native.Mathlib.Omega.{arith}
 use Prim.Native.Nat.{ℕ, _≤_, _<_}
 use Rattle.bytes.specs.Bytes.{byteAt}
-use Rattle.image.specs.Tasks.{taskOf}
 use Rattle.image.specs.Judged.{Outcome, outcomeOf, outcome, numberOf}
 use Rattle.image.specs.Promise.{Judging}
 use Rattle.image.specs.declared.Refusal.{Refusal}
@@ -20,13 +19,13 @@ use Rattle.figures.specs.declared.Totals.{Totals}
 use Rattle.figures.specs.declared.Answer.{Answer}
 use Rattle.figures.specs.declared.Answer.the-variants.{Given, Refused as NotGiven}
 use Rattle.figures.specs.Answers.{Result, resultOf}
-use Rattle.figures.specs.WholeRuns.{WholeRuns}
-use Rattle.figures.specs.Promise.{Demand3}
+use Rattle.figures.proofs.Promises.{runs}
 use Rattle.edits.specs.declared.Edited.{Edited}
 use Rattle.edits.specs.declared.Found.{Found}
 use Rattle.edits.specs.declared.Found.the-variants.{At, Refused as NotFound}
 use Rattle.edits.specs.Edits.{found, changeFor, changeOf, imageWith}
-use Rattle.edits.specs.Promise.{Editable, Editing, Leaves, Previewing, PreviewGiven}
+use Rattle.edits.specs.Promise.{Editable, Editing, Leaves, Previewing}
+use Rattle.edits.proofs.Standing.{still-accepted}
 use Rattle.edits.proofs.Finds.{when-found}
 use Rattle.edits.proofs.Laws.{edit-is, change-is, preview-is, leaves}
 use Rattle.graph.specs.declared.Verdict.{Verdict as TableVerdict}
@@ -97,17 +96,16 @@ module _ (result : Result) (filled table lent : List ℕ) where
 
 -- ---- the figures: demand 3
 
-pub no-figures : (s table found : List ℕ) (status : ℕ) → 1 ≤ status → WholeFigures s status table found
-no-figures s table found status h k e z = absurd (omega arith)
-
-pub told-runs : (s table lent : List ℕ) (a : Answer) (status : ℕ) (found : List ℕ) → Demand3 s a table
-    → told (resultOf a) lent ≡ (status, found) → WholeFigures s status table found
-told-runs s table lent (Given f) status found d e k j z =
-    let q : f .tight ∷ f .published ∷ f .exits ∷ drop 3 lent ≡ found = ap (λ (x : ℕ × List ℕ). x .1) e in
-    rw (← q) (d k f j refl)
-told-runs s table lent (NotGiven r place) status found d e k j z =
-    let q : 1 ≡ status = ap (λ (x : ℕ × List ℕ). x .0) e in
-    absurd (omega arith)
+-- what the program finds of an accepted image
+pub whole-figures : (s before lent : List ℕ) (status : ℕ) (table said : List ℕ) → figuresCall s before lent ≡ (status, table, said)
+    → WholeFigures s before lent status table said
+unfolding toldCall
+whole-figures s before lent status table said is k e room long =
+    let enough = le-ltb (length before) (k .period) (omega (arith, room)) in
+    let q = rw (le-ltb (length lent) 3 (omega (arith, long)), e, enough) at is in
+    let found = ap (λ (x : ℕ × List ℕ × List ℕ). x .2) q in
+    let left = ap (λ (x : ℕ × List ℕ × List ℕ). x .1) q in
+    (sym (ap (λ (x : ℕ × List ℕ × List ℕ). x .0) q), rw (← found, ← left) (runs s before k e _ _ _ _ (rw enough) (rw enough)))
 
 -- ---- an edit
 
@@ -154,31 +152,28 @@ module _ (s : List ℕ) (node lo hi : ℕ) (before lent : List ℕ) where
       let p = preview-is s node lo hi d before in
       ap₂ (λ (r : Result) (t : List ℕ). toldCall r t before lent) (sym (p .0)) (sym (p .1))
 
-  pub no-preview : length lent < 3 → WholePreview s node lo hi before lent 2 before lent
-  no-preview short = record {
-    possible = λ z. absurd (omega arith);
-    given = λ d room long. absurd (omega (arith, long));
-    fresh = λ d. told-short _ _ before lent short;
+  whole-preview : (status : ℕ) (table said : List ℕ) → previewCall s node lo hi before lent ≡ (status, table, said)
+      → (status ≡ 0 → (d : Editable s node lo hi) × (d .outline .period ≤ length before) × (3 ≤ length lent))
+      → WholePreview s node lo hi before lent status table said
+  whole-preview status table said is p = record {
+    possible = p;
+    given = λ d room long.
+        whole-figures (imageWith s node lo hi) before lent status table said (fresh d ∙ is) (d .outline) (still-accepted s node lo hi d)
+        (omega (arith, room)) (omega (arith, long));
+    fresh = λ d. fresh d ∙ is;
   }
 
+  pub no-preview : (table said : List ℕ) → previewCall s node lo hi before lent ≡ (2, table, said) → WholePreview s node lo hi before lent 2 table said
+  no-preview table said is = whole-preview 2 table said is (λ z. absurd (omega arith))
+
   pub told-preview : 3 ≤ length lent → (a : Answer) (status : ℕ) (table said : List ℕ) → Previewing s node lo hi before a table
-      → PreviewGiven s node lo hi before a table → told (resultOf a) lent ≡ (status, said)
-      → previewCall s node lo hi before lent ≡ (status, table, said) → WholePreview s node lo hi before lent status table said
-  told-preview enough a status table said p f e is =
-      record { possible = λ z. by-answer a refl (ap (λ (x : ℕ × List ℕ). x .0) e ∙ z); given = λ d room long. when-possible d (omega (arith, room)) (omega (arith, long)); fresh = λ d. fresh d ∙ is }
+      → told (resultOf a) lent ≡ (status, said) → previewCall s node lo hi before lent ≡ (status, table, said) → WholePreview s node lo hi before lent status table said
+  told-preview enough a status table said p e is = whole-preview status table said is (λ z. by-answer a refl (ap (λ (x : ℕ × List ℕ). x .0) e ∙ z))
     where
       by-answer : (x : Answer) → a ≡ x → told (resultOf x) lent .0 ≡ 0
           → (d : Editable s node lo hi) × (d .outline .period ≤ length before) × (3 ≤ length lent)
       by-answer (Given t) q z = let w = p .possible t q in (w .0, omega (arith, w .1), omega (arith, enough))
       by-answer (NotGiven r place) q z = absurd (omega arith)
-
-      when-possible : (d : Editable s node lo hi) → d .outline .period ≤ length before → 3 ≤ length lent → (status ≡ 0)
-          × WholeRuns (taskOf (imageWith s node lo hi) (d .outline)) (getD said 0 0) (getD said 1 0) (getD said 2 0) table
-      when-possible d room long =
-          let q = f d room in
-          let t : told (resultOf (Given (q .totals))) lent ≡ (status, said) = rw (q .given) at e in
-          let w : q .totals .tight ∷ q .totals .published ∷ q .totals .exits ∷ drop 3 lent ≡ said = ap (λ (x : ℕ × List ℕ). x .1) t in
-          (sym (ap (λ (x : ℕ × List ℕ). x .0) t), rw (← w) (q .demand3))
 
 -- ---- the finishes
 

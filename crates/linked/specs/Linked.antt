@@ -45,10 +45,10 @@ toldCall result filled table lent = cond (ltb (length lent) 3) (2, table, lent) 
 abbrev pub figuresCall : List ℕ → List ℕ → List ℕ → ℕ × List ℕ × List ℕ
 figuresCall image table lent = toldCall (answer image table) (tableAfter image table) table lent
 
--- demand 3 of the numbers that the program finds
-abbrev pub WholeFigures : List ℕ → ℕ → List ℕ → List ℕ → Type 0
-WholeFigures image status table found = (k : Outline) → judged image ≡ Accepted k → status ≡ 0
-    → WholeRuns (taskOf image k) (getD found 0 0) (getD found 1 0) (getD found 2 0) table
+-- an accepted image with places enough is given figures, and demand 3 holds of the numbers that the program finds
+abbrev pub WholeFigures : List ℕ → List ℕ → List ℕ → ℕ → List ℕ → List ℕ → Type 0
+WholeFigures image before lent status table found = (k : Outline) → judged image ≡ Accepted k → k .period ≤ length before → 3 ≤ length lent
+    → (status ≡ 0) × WholeRuns (taskOf image k) (getD found 0 0) (getD found 1 0) (getD found 2 0) table
 
 -- an edit: 0 and 0, or the number and the place
 abbrev pub changedInto : Change → List ℕ → ℕ × List ℕ

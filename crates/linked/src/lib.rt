@@ -11,10 +11,10 @@
 //   slotfigures_arbiter_reset, _tick, _write, _read, _line
 //                         `arbiterCall` of that caller and call; ruled out: a state of 50 bytes that is taken, the core named in the caller's place
 // The numbers are those of `image::judge`, `figures::figures`, `edits::edit`, `edits::preview`, `graph::finishes` and the calls of `callers`,
-// whose promises hold of them. Of the places that a program reads, `WholeFigures` and `WholePreview` repeat demand 3, `WholeEdit` what an edit
-// leaves, and `WholeFinishes` what finishes say of all starts, ends and whole runs. Calls to the arbiter one after the other lead where
-// `afterAllBy` of `callers` leads, so its laws and those of `arbiter` hold of the bytes (`bytes-lead`, `bytes-same-answers` in
-// crates/lent/proofs/Bytewise.antt).
+// whose promises hold of them. Of the places that a program reads, `WholeFigures` and `WholePreview` say that figures are given and repeat demand
+// 3, `WholeEdit` what an edit leaves, and `WholeFinishes` what finishes say of all starts, ends and whole runs. Calls to the arbiter one after
+// the other lead where `afterAllBy` of `callers` leads, so its laws and those of `arbiter` hold of the bytes (`bytes-lead`, `bytes-same-answers`
+// in crates/lent/proofs/Bytewise.antt).
 ghost use mathlib.Core.Path.{_≡_};
 ghost use Prim.Native.Nat.{_≤_};
 ghost use lib.ListN.{length};
@@ -77,7 +77,7 @@ fn tell(answer: &mut [u64], found: Answer) -> u64
 #[no_mangle]
 pub extern "C" fn slotfigures_figures(image: &[u8], table: &mut [u64], answer: &mut [u64]) -> u64
     ensures equality { λ r. ⌜ figuresCall (now (image .entry)) (now (table .entry)) (now (answer .entry)) ≡ (r, now (table .exit), now (answer .exit)) ⌝ }
-    ensures demand3 { λ r. ⌜ WholeFigures (now (image .entry)) r (now (table .exit)) (now (answer .exit)) ⌝ }
+    ensures demand3 { λ r. ⌜ WholeFigures (now (image .entry)) (now (table .entry)) (now (answer .entry)) r (now (table .exit)) (now (answer .exit)) ⌝ }
 {
     if answer.len() < FIGURES {
         return SHORT;

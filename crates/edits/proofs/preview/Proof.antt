@@ -42,7 +42,7 @@ returns-2 c =
     let s = a .image .now in
     let t = g .last .1 .1 .1 .1 .0 in (
       preview-given s (a .node) (a .lowest) (a .highest) (f .result) (f .ensures) (v .0 .0) (v .1) (a .table .now) (g .result) t (g .ensures .0),
-      given-foreseen s (a .node) (a .lowest) (a .highest) (f .result) (f .ensures) (v .0 .0) (v .1) (a .table .now) (g .result) t (g .ensures .0)
+      given-foreseen s (a .node) (a .lowest) (a .highest) (f .result) (f .ensures) (v .0 .0) (v .1) (a .table .now) (g .result) t
           (g .ensures .1 .0) (g .ensures .1 .1),
     )
 

@@ -1,7 +1,7 @@
--- Judging's refusals are passed on; for an accepted image the answer is `given`'s. The three parts follow by the laws of Promises.
+-- Judging's refusals are passed on; for an accepted image the answer is `given`'s. Either way equality holds, and both demands follow from it.
 use borrow.Author.Needs.{needs}
 use mathlib.Core.Path.{sym, _∙_}
-use Rattle.figures.proofs.Promises.{answerable, refused-equal, refused-demand3, refused-demand2, given-equal, given-demand3, given-demand2}
+use Rattle.figures.proofs.Promises.{answerable, refused-equal, given-equal, demand3, demand2}
 use Rattle.figures.proofs.figures.Statement.{statement}
 use Rattle.figures.proofs.figures.Tie as tie
 
@@ -24,14 +24,9 @@ returns : tie.Need-returns
 returns c =
     let a = c .before .before .before .before .before .before .before .args in
     let j = c .before .before .before .before .judge in
-    let e = sym (j .ensures .is) ∙ c .before .verdict .given .1 in
-    let r = c .before .verdict .given .0 in (
-      refused-equal (a .image .now) (a .table .now) (r .0) (r .1 .0) e,
-      (
-        refused-demand3 (a .image .now) (a .table .now) (r .0) (r .1 .0) e,
-        refused-demand2 (a .image .now) (a .table .now) (r .0) (r .1 .0) e,
-      ),
-    )
+    let v = c .before .verdict .given in
+    let q = refused-equal (a .image .now) (a .table .now) (v .0 .0) (v .0 .1 .0) (sym (j .ensures .is) ∙ v .1) in
+    (q, (demand3 (a .image .now) (a .table .now) _ _ q, demand2 (a .image .now) (a .table .now) _ _ q))
 
 same-length : tie.Need-same-length
 same-length c = search needs
@@ -41,14 +36,9 @@ returns-2 c =
     let a = c .before .before .before .before .before .before .before .before .before .before .before .before .args in
     let j = c .before .before .before .before .before .before .before .before .before .judge in
     let v = c .before .before .before .before .before .before .verdict2 .given in
-    let e = sym (j .ensures .is) ∙ v .1 in
-    let g = c .before .before .given in (
-      given-equal (a .image .now) (a .table .now) (v .0 .0) e (g .result) (g .last .1 .1 .1 .0) (g .ensures),
-      (
-        given-demand3 (a .image .now) (a .table .now) (v .0 .0) e (g .result) (g .last .1 .1 .1 .0) (g .ensures),
-        given-demand2 (a .image .now) (a .table .now) (v .0 .0) e (g .result) (g .last .1 .1 .1 .0) (g .ensures),
-      ),
-    )
+    let g = c .before .before .given in
+    let q = given-equal (a .image .now) (a .table .now) (v .0 .0) (sym (j .ensures .is) ∙ v .1) (g .result) (g .last .1 .1 .1 .0) (g .ensures) in
+    (q, (demand3 (a .image .now) (a .table .now) _ _ q, demand2 (a .image .now) (a .table .now) _ _ q))
 
 pub figures-spec : {M : Type 1} → statement M
 figures-spec =

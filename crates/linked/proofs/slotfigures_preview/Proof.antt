@@ -9,7 +9,10 @@ use Rattle.linked.proofs.slotfigures_preview.Tie as tie
 returns : tie.Need-returns
 returns c =
     let a = c .before .before .before .before .args in
-    (told-short _ _ (a .table .now) (a .answer .now) (omega arith), no-preview (a .image .now) (a .node) (a .lowest) (a .highest) (a .table .now) (a .answer .now) (omega arith))
+    let is =
+    told-short (previewOf (a .image .now) (a .node) (a .lowest) (a .highest) (a .table .now)) (previewTable (a .image .now) (a .node) (a .lowest) (a .highest) (a .table .now))
+    (a .table .now) (a .answer .now) (omega arith) in
+    (is, no-preview (a .image .now) (a .node) (a .lowest) (a .highest) (a .table .now) (a .answer .now) _ _ is)
 
 preview-requires : tie.Need-preview-requires
 preview-requires c κs = search needs
@@ -34,7 +37,7 @@ returns-2 c =
     (a .table .now) (a .answer .now) (omega arith) (g .result) f (g .ensures .0 .result) (g .ensures .0 .table) (t .result) (t .last .0) (t .ensures) in (
       is,
       told-preview (a .image .now) (a .node) (a .lowest) (a .highest) (a .table .now) (a .answer .now) (omega arith) (g .result) (t .result) f (t .last .0)
-          (g .ensures .0) (g .ensures .1) (t .ensures) is,
+          (g .ensures .0) (t .ensures) is,
     )
 
 pub slotfigures-preview-spec : {M : Type 1} → statement M
