@@ -1,6 +1,6 @@
 -- States reached by calls from a reset: in range, 16 cores, and a running access lies inside its core's slot. So no two cores are running.
 use mathlib.Core.Path.{_≡_, refl, sym, _∙_, ap, subst}
-use mathlib.Core.Bool.{true, false, _||_, false≢true}
+use mathlib.Core.Bool.{true, _||_, false≢true}
 use mathlib.Core.List.{List, [], _∷_}
 use mathlib.Core.Logic.{inr}
 use native.Mathlib.Nat.{mod-eq-of-lt, mul-le-mul-right, suc-mul}
@@ -9,7 +9,7 @@ use borrow.Author.Tests.{leb-true, le-leb, lt-leb, eqb-true, eq-eqb}
 use lib.Dec.{leb, eqb}
 use lib.ListN.{length, getD, set, length-set, List·getD-eq-default, length-replicate, replicate}
 use lib.Seq.{getD-set-same}
-use Prim.Native.Nat.{ℕ, zero, suc, _+_, _-_, _%_, _≤_, _<_}
+use Prim.Native.Nat.{ℕ, zero, suc, _+_, _%_, _≤_, _<_}
 use Rattle.runs.specs.Slots.{Slots, first, periodOf, inSlot}
 use Rattle.runs.proofs.Cases.{split, either}
 use Rattle.arbiter.specs.declared.Arbiter.{Arbiter}

@@ -9,7 +9,7 @@ use borrow.Author.Tests.{leb-true, le-leb, lt-leb, eq-eqb}
 use lib.Dec.{leb, eqb}
 use lib.ListN.{length}
 use lib.Seq.{getD-set-same}
-use Prim.Native.Nat.{ℕ, _+_, _-_, _*_, _%_, _≤_, _<_}
+use Prim.Native.Nat.{ℕ, _+_, _*_, _%_, _≤_, _<_}
 use Rattle.runs.specs.Slots.{Slots, HasSlot, periodOf, inSlot, equalSlots, equation7}
 use Rattle.runs.specs.Clock.{State, on, offsets}
 use Rattle.runs.proofs.Accesses.{access-only, access-ends, pass-is}

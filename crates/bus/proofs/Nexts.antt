@@ -1,6 +1,6 @@
 -- From a stretch over the gap after it to the next, which is so many cycles on.
 use mathlib.Core.Path.{_≡_, sym, _∙_, ap}
-use mathlib.Core.Bool.{Bool, true, false, false≢true}
+use mathlib.Core.Bool.{Bool, false, false≢true}
 use native.Mathlib.Nat.{mod-lt, mod-eq-of-lt, add-mod-right, mod-add-mod, add-zero}
 use native.Mathlib.Omega.{arith}
 use Prim.Native.Nat.{ℕ, zero, suc, _+_, _-_, _%_, _≤_, _<_}

@@ -1,14 +1,13 @@
 -- The bus of any offsets that a core owns: every offset, or stretches of them, which begin at the offsets of the set s and are listed.
 use mathlib.Core.Path.{_≡_, refl, sym, _∙_, ap, subst}
-use mathlib.Core.Bool.{Bool, true, false, not, cond, _&&_, false≢true}
+use mathlib.Core.Bool.{Bool, true, false, not, _&&_, false≢true}
 use native.Mathlib.Nat.{mod-lt, mod-eq-of-lt, add-mod-right, not-suc-le-zero}
 use native.Mathlib.Omega.{arith}
 use borrow.Author.Tests.{lt-ltb, le-ltb}
-use lib.Dec.{ltb}
 use Prim.Native.Nat.{ℕ, zero, suc, _+_, _-_, _%_, _≤_, _<_}
 use Rattle.runs.specs.Schedules.{owning}
 use Rattle.runs.specs.Stretches.{IsRun, Begins, NextStretch}
-use Rattle.runs.proofs.Cases.{split, either}
+use Rattle.runs.proofs.Cases.{split}
 use Rattle.runs.proofs.SchedulesLaws.{next-of, most-least, most-le}
 use Rattle.runs.proofs.Nexts.{run-fits, run-holds, begun as begun-run}
 use Rattle.runs.proofs.BeginsLaws.{longest-begins, lone-free, all-owned}
@@ -17,7 +16,6 @@ use Rattle.offsets.specs.Sets.{value, has, members, Lowest}
 use Rattle.offsets.proofs.Members.{same-truth}
 use Rattle.bus.specs.declared.Bus.{Bus}
 use Rattle.bus.specs.declared.Stretches.{Stretches}
-use Rattle.bus.specs.Aheads.{Ahead}
 use Rattle.bus.specs.Stretches.{begun, beginOf, lengthOf, after, InTurn, LongestOf, Begun, Ordered}
 use Rattle.bus.specs.Owning.{Alone, Parted, Fit, Beginnings}
 use Rattle.bus.proofs.Aheads.{stretched}

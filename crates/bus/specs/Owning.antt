@@ -1,7 +1,7 @@
 -- A bus of the program as owned offsets: what it stands for, and what its functions promise. Definitions only.
 use mathlib.Core.Path.{_≡_}
 use mathlib.Core.Bool.{Bool, true, false, not}
-use Prim.Native.Nat.{ℕ, _+_, _-_, _%_, _^_, _≤_, _<_}
+use Prim.Native.Nat.{ℕ, _+_, _%_, _^_, _≤_, _<_}
 use Rattle.runs.specs.Bus.{Bus as RunBus}
 use Rattle.runs.specs.Slots.{Slots, first, periodOf}
 use Rattle.runs.specs.Schedules.{owning}

@@ -13,7 +13,7 @@ use Rattle.runs.specs.Schedules.{owning}
 use Rattle.runs.specs.Lines.{power, has}
 use Rattle.runs.specs.Clock.{offsets, withLines}
 use Rattle.runs.specs.Nodes.{Tree, may, always}
-use Rattle.runs.specs.Carried.{row, joinBelow, carried}
+use Rattle.runs.specs.Carried.{joinBelow, carried}
 use Rattle.runs.specs.Figures.{Time, later, longer, times, atOffsets}
 use Rattle.runs.specs.Parts.{rowOf}
 use Rattle.runs.proofs.Joins.{longer-joins, row-same, below-same}

@@ -1,5 +1,5 @@
 -- The lines of an answer that equals its definition are the listing.
-use mathlib.Core.Path.{_≡_, refl, sym, _∙_, ap, ap₂}
+use mathlib.Core.Path.{_≡_, sym, _∙_, ap, ap₂}
 use mathlib.Core.List.{List}
 use lib.ListN.{length}
 use native.Mathlib.Omega.{arith}
@@ -9,10 +9,9 @@ use Rattle.image.specs.declared.Refusal.{Refusal}
 use Rattle.figures.specs.declared.Totals.{Totals}
 use Rattle.figures.specs.declared.Answer.{Answer}
 use Rattle.figures.specs.declared.Answer.the-variants.{Given, Refused}
-use Rattle.figures.specs.Answers.{Result, resultOf, answer, tableAfter}
+use Rattle.figures.specs.Answers.{Result, resultOf}
 use Rattle.figures.specs.Promise.{Equal}
 use Rattle.text.specs.declared.Written.{Written}
-use Rattle.text.specs.Text.{figureLines}
 use Rattle.text.specs.Buffer.{intoBuffer, refusedListed, figuresListed}
 use Rattle.text.proofs.Answers.{figures-listed}
 use Rattle.listing.specs.Listings.{textOf, lent, listingOf}

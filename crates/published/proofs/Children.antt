@@ -7,7 +7,7 @@ use lib.Bits.{bitOr}
 use native.Mathlib.Omega.{arith}
 use Prim.Native.Nat.{ℕ, _+_, _-_, _*_, _≤_, _<_, max}
 use Rattle.runs.specs.Nodes.{visits, visitsAll}
-use Rattle.runs.specs.Figures.{cost, costAll, costAny}
+use Rattle.runs.specs.Figures.{costAll, costAny}
 use Rattle.runs.proofs.Joins.{or-joins}
 use Rattle.runs.proofs.Bounds.{cost-bounded}
 use Rattle.bus.specs.Owning.{busMeant}

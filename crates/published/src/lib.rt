@@ -7,7 +7,7 @@
 // A loop whose exit sets have become periodic (after `cycle` iterations the set is the same again, and they cost `gain`) is not walked to its
 // end: the unroller stops there, whole cycles are skipped, and the rest is walked.
 ghost use mathlib.Core.Path.{_≡_};
-ghost use Prim.Native.Nat.{ℕ, _+_, _≤_, max};
+ghost use Prim.Native.Nat.{_+_, _≤_, max};
 ghost use Rattle.runs.specs.Nodes.{Tree};
 ghost use Rattle.bus.specs.declared.Bus.{Bus};
 ghost use Rattle.nodes.specs.Nodes.{treeAt, childTrees, kindMeant};

@@ -6,9 +6,9 @@ use mathlib.Core.List.{List}
 use lib.Dec.{eqb}
 use borrow.Author.Tests.{ne-eqb, eqb-true, eqb-false, le-ltb}
 use native.Mathlib.Omega.{arith}
-use Prim.Native.Nat.{ℕ, zero, suc, _/_, _%_, _≤_, _<_}
+use Prim.Native.Nat.{ℕ, zero, suc, _/_, _<_}
 use Rattle.runs.specs.Lines.{has, add}
-use Rattle.runs.specs.Clock.{Places, State, on, withLines, tick, pass, fetched, Access, start, hold}
+use Rattle.runs.specs.Clock.{State, on, withLines, tick, pass, fetched, Access, start, hold}
 use Rattle.runs.specs.Runs.{Task, placesOf, Run, Does, DoesAll, DoesTimes, passes, may-pass, accesses, first-time, later-time, in-order, one-of, repeats, end, next, enough, again}
 use Rattle.runs.specs.Fetching.{isFetched, executes, executesAll, executesTimes}
 use Rattle.runs.proofs.Cases.{split, either}

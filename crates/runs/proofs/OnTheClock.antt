@@ -7,7 +7,7 @@ use native.Mathlib.Omega.{arith}
 use Prim.Native.Nat.{ℕ, zero, suc, _+_, _%_, _<_}
 use Rattle.runs.specs.Clock.{State, withLines, tick, pass, fetched, Access, start, hold}
 use Rattle.runs.specs.Runs.{Task, placesOf, finalOffset, Does, DoesAll, DoesTimes, passes, may-pass, accesses, first-time, later-time, in-order, one-of, repeats, end, next, enough, again}
-use Rattle.runs.proofs.Simulates.{Maps, lines-forgotten}
+use Rattle.runs.proofs.Simulates.{lines-forgotten}
 
 module _ (t : Task) (pos : 0 < t .bus .period) (c : ℕ) where
   -- the offset is that of the clock

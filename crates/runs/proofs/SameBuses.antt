@@ -121,7 +121,7 @@ module _ (b b' : Bus) (most : ℕ) (same : (e o : ℕ) → 1 ≤ e → e ≤ mos
 
     costAny-same : (ts : Trees) → Valids most ts → (X : List Bool) → costAny b ts X ≡ costAny b' ts X
     costAny-same done v X = refl
-    costAny-same (more t ts) v X = ap₂ max (cost-same t (v .0) X) (costAny-same ts (v .1) X)
+    costAny-same (more t ts) v X = omega (arith, cost-same t (v .0) X, costAny-same ts (v .1) X)
 
 -- ---- of trees and starts
 

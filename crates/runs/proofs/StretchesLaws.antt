@@ -1,6 +1,6 @@
 -- An access that waits starts where a stretch begins; and from which offsets it waits for one.
 use mathlib.Core.Path.{_≡_, sym, _∙_, ap}
-use mathlib.Core.Bool.{Bool, true, false, false≢true}
+use mathlib.Core.Bool.{Bool, true, false≢true}
 use lib.Dec.{leb}
 use borrow.Author.Tests.{le-leb, lt-leb}
 use native.Mathlib.Nat.{mod-eq-of-lt, mod-lt, add-mod-right, mod-add-mod, add-zero}

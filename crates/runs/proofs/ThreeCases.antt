@@ -54,7 +54,3 @@ three-cases v ok e pos le o lt = record {
   only = λ c d. same v e le o (c .1) (d .1);
   clock = λ w c. subst (λ (x : SomeCase v e o). IsWait (equalSlots v) e o (x .0)) (same v e le o (exists v e le o) c) (equation7-is v ok e pos le o lt .0);
 }
-
--- so that the wait of any case that holds is Equation 7's
-pub case-wait : (v : Slots) (e o : ℕ) → OneCase v e o → (w : ℕ) → WaitCase v e o w → w ≡ equation7 v e o
-case-wait v e o x w c = ap (λ (y : SomeCase v e o). y .0) (x .only (w, c) (equation7 v e o, x .one))

@@ -1,15 +1,15 @@
 -- Without blocks fetched once, places are offsets: the published exit set then has exactly the offsets at which runs end.
-use mathlib.Core.Path.{_≡_, refl, sym, _∙_, ap, subst}
-use mathlib.Core.Bool.{Bool, true, false, _||_}
+use mathlib.Core.Path.{_≡_, refl, _∙_, ap, subst}
+use mathlib.Core.Bool.{Bool, true, false}
 use mathlib.Core.Option.{none}
 use mathlib.Core.List.{List}
 use lib.ListN.{getD}
 use native.Mathlib.Nat.{mod-lt, mod-eq-of-lt, div-eq-of-lt, zero-mul, zero-add}
 use native.Mathlib.Omega.{arith}
-use Prim.Native.Nat.{ℕ, zero, suc, _+_, _*_, _/_, _%_, _≤_, _<_}
+use Prim.Native.Nat.{ℕ, zero, suc, _+_, _%_, _<_}
 use Rattle.runs.specs.Clock.{Places, State, on, offsets, withLines, tick, pass, Access, start, hold}
-use Rattle.runs.specs.Nodes.{Node, Children, All, nodeLines}
-use Rattle.runs.specs.Runs.{Task, placesOf, finalOffset, Ends, Run, Does, DoesAll, DoesTimes, passes, may-pass, accesses, first-time, later-time, in-order, one-of, repeats, end, next, enough, again}
+use Rattle.runs.specs.Nodes.{Node, All, nodeLines}
+use Rattle.runs.specs.Runs.{Task, placesOf, finalOffset, Ends, Does, DoesAll, DoesTimes, passes, may-pass, accesses, first-time, later-time, in-order, one-of, repeats, end, next, enough, again}
 use Rattle.runs.specs.Figures.{Time, held, treeOf, exitTimes, exitSet}
 use Rattle.runs.specs.Exact.{Longest, nothing, reached, ValidTask}
 use Rattle.runs.proofs.Accesses.{state-path}

@@ -1,6 +1,6 @@
 -- Which lines an execution executes (document 02, W9: "counted over all nodes with that line"). Definitions only. That these are the lines that a
 -- state has as fetched is proved in proofs/Fetched.antt.
-use mathlib.Core.Bool.{Bool, true, false, _||_}
+use mathlib.Core.Bool.{Bool, false, _||_}
 use mathlib.Core.List.{List}
 use lib.Dec.{eqb}
 use Prim.Native.Nat.{ℕ}

@@ -7,7 +7,7 @@ use native.Mathlib.Nat.{zero-add}
 use native.Mathlib.Omega.{arith}
 use lib.ListN.{length}
 use borrow.Author.Tests.{le-leb, eq-eqb, ne-eqb}
-use Prim.Native.Nat.{ℕ, zero, suc, _+_, _-_, _*_, _/_, _≤_, _<_}
+use Prim.Native.Nat.{ℕ, zero, suc, _+_, _*_, _/_, _≤_, _<_}
 use Rattle.runs.specs.Bus.{SameBus}
 use Rattle.runs.specs.Slots.{equalSlots}
 use Rattle.runs.specs.Schedules.{Turn, Schedule, turnsFrom, even, unequalSlots}

@@ -6,7 +6,7 @@
 // Definitions: specs/Said.antt, over crates/runs/specs/Slots.antt and Schedules.antt.
 ghost use mathlib.Core.Path.{_≡_};
 ghost use mathlib.Core.Bool.{cond};
-ghost use Prim.Native.Nat.{_+_, _*_, _<_, _≤_};
+ghost use Prim.Native.Nat.{_+_, _<_, _≤_};
 ghost use Rattle.runs.specs.Bus.{SameBus};
 ghost use Rattle.runs.specs.Schedules.{total};
 ghost use Rattle.offsets.specs.Sets.{value};

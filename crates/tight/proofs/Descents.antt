@@ -4,7 +4,7 @@ use mathlib.Core.List.{List}
 use lib.ListN.{length, getD}
 use native.Mathlib.Omega.{arith}
 use native.Mathlib.Nat.{mul-le-mul-right, mul-comm}
-use Prim.Native.Nat.{ℕ, _-_, _≤_, _<_}
+use Prim.Native.Nat.{ℕ, _≤_, _<_}
 use Rattle.runs.specs.Lines.{power}
 use Rattle.runs.specs.Nodes.{Tree, visits}
 use Rattle.nodes.specs.Nodes.{nodeOf, kindMeant, treeAt, childTrees}

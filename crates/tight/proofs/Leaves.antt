@@ -3,7 +3,7 @@ use mathlib.Core.Path.{_≡_, refl}
 use mathlib.Core.List.{List}
 use native.Mathlib.Omega.{arith}
 use Prim.Native.Nat.{ℕ, suc, _+_, _*_, _/_, _%_, _≤_, _<_}
-use Rattle.runs.specs.Lines.{power, has, add}
+use Rattle.runs.specs.Lines.{power, add}
 use Rattle.runs.proofs.LinesLaws.{power-pos, add-in}
 use Rattle.image.specs.declared.Walk.{Walk}
 use Rattle.nodes.proofs.Fetches.{few-sets}

@@ -10,9 +10,8 @@
 // unroller stops there, whole cycles are skipped by one addition, and the rest is walked.
 ghost use mathlib.Core.Path.{_≡_};
 ghost use lib.ListN.{length};
-ghost use Prim.Native.Nat.{_+_, _≤_, _<_};
+ghost use Prim.Native.Nat.{_≤_};
 ghost use Rattle.nodes.specs.Nodes.{treeAt, childTrees, kindMeant};
-ghost use Rattle.image.specs.declared.Walk.{Walk};
 ghost use Rattle.runs.specs.Nodes.{Tree};
 ghost use Rattle.iterations.specs.Iterations.{Empty};
 ghost use Rattle.tight.specs.Steps.{sizeOf, table, afterAll, Walked, Sized, PlainReady, BusReady, OnceReady, Ready, ReadyAll, ReadyRepeat, ReadyLoop, Unrolls, Branched};

@@ -7,7 +7,7 @@ use lib.ListN.{getD}
 use native.Mathlib.Omega.{arith}
 use native.Mathlib.Nat.{mod-lt, mod-eq-of-lt, add-mod-right, mod-add-mod}
 use Prim.Native.Nat.{ℕ, _+_, _-_, _%_, _≤_, _<_, max}
-use Rattle.runs.specs.Figures.{Time, later, longer}
+use Rattle.runs.specs.Figures.{Time, later}
 use Rattle.runs.proofs.Cases.{split}
 use Rattle.runs.proofs.TimesExact.{longest-same, longest-some, times-mean}
 use Rattle.times.specs.Arrays.{noTime, timeOf, tableOf, Fits, LongerOf}

@@ -10,7 +10,7 @@
 ghost use mathlib.Core.Path.{_≡_};
 ghost use lib.ListN.{length};
 ghost use Rattle.runs.specs.Figures.{later as laterBy};
-ghost use Prim.Native.Nat.{_+_, _-_, _<_, _≤_, max};
+ghost use Prim.Native.Nat.{_+_, _<_, _≤_, max};
 ghost use Rattle.bus.specs.Owning.{owns, Fit};
 ghost use Rattle.times.specs.Arrays.{noTime, timeOf, Fits};
 ghost use Rattle.waiting.specs.Waiting.{Reach, Come, ComeLater, Shorter, WaitsOn, keptTime, among, Small, Ended, LeftBy, LeftAll};

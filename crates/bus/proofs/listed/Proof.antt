@@ -1,7 +1,7 @@
 -- Before each turn the list has the offsets of s below a, and one stands at a, if that is within the period.
 use mathlib.Core.Path.{_≡_, refl, sym}
 use mathlib.Core.Bool.{true}
-use Prim.Native.Nat.{ℕ, _+_, _-_, _<_}
+use Prim.Native.Nat.{_-_, _<_}
 use native.Mathlib.Omega.{arith}
 use Rattle.offsets.specs.Sets.{value, has, members}
 use Rattle.bus.specs.Stretches.{Ordered}

@@ -1,12 +1,12 @@
 -- The next in the list, and the gap before it.
 use mathlib.Core.Path.{_≡_, refl, sym, _∙_, ap, subst}
 use mathlib.Core.Logic.{⊎-elim}
-use Prim.Native.Nat.{ℕ, _+_, _-_, _≤_, _<_}
+use Prim.Native.Nat.{ℕ, _+_, _-_, _<_}
 use native.Mathlib.Omega.{arith}
 use Rattle.runs.specs.Stretches.{NextStretch}
 use Rattle.runs.proofs.Forward as forward
 use Rattle.bus.specs.Owning.{owns}
-use Rattle.bus.specs.Stretches.{after, beginOf, lengthOf}
+use Rattle.bus.specs.Stretches.{after, beginOf}
 use Rattle.bus.proofs.Listing.{after-in, after-next, after-last}
 use Rattle.bus.proofs.Nexts.{gap-fits, gap-on, gap-round}
 use borrow.Author.Needs.{needs}

@@ -1,8 +1,7 @@
 -- Every offset, several stretches or one: the bus of OfOffsets.
-use mathlib.Core.Path.{_≡_, refl, sym, _∙_, ap}
+use mathlib.Core.Path.{refl}
 use mathlib.Core.Logic.{⊎-elim}
 use native.Mathlib.Omega.{arith}
-use Prim.Native.Nat.{ℕ, _≤_}
 use Rattle.bus.proofs.OfOffsets.{begun-of, fit-whole, fit-many, fit-lone}
 use borrow.Author.Needs.{needs}
 use Rattle.bus.proofs.of_offsets.Statement.{statement}

@@ -10,7 +10,6 @@ use Rattle.exits.specs.Exits.{LongestWait}
 use Rattle.exits.proofs.Served.{Met, met-first, met-next}
 use Rattle.exits.proofs.LongestWaits.{Kept, longest-none, kept-first, kept-same, kept-far, slowest-any, slowest}
 use native.Mathlib.Omega.{arith}
-use borrow.Author.Needs.{needs}
 use Rattle.exits.proofs.farthest.Statement.{statement}
 use Rattle.exits.proofs.farthest.Tie as tie
 

@@ -1,5 +1,5 @@
 -- What is kept after one more iteration is where the loop stands where the gap is 0, and else what was kept.
-use mathlib.Core.Path.{_≡_, refl, sym, _∙_}
+use mathlib.Core.Path.{refl, sym, _∙_}
 use borrow.Author.Tests.{eqb-true}
 use Rattle.offsets.specs.Sets.{value}
 use Rattle.published.proofs.Watching.{watched-by}

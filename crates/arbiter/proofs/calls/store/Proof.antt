@@ -7,7 +7,6 @@ use lib.Dec.{eqb}
 use Prim.Native.Nat.{ℕ}
 use Rattle.image.specs.declared.Refusal.the-variants.{Busy}
 use Rattle.arbiter.specs.declared.Arbiter.{Arbiter}
-use Rattle.arbiter.specs.declared.Outcome.{Outcome}
 use Rattle.arbiter.specs.declared.Registers.{Registers}
 use Rattle.arbiter.specs.Device.{busy, registersOf, withRegisters}
 use Rattle.arbiter.specs.Calls.{refuse, leave, written}

@@ -1,8 +1,7 @@
 -- What turned to running falls too: the test is made behind the turn.
-use mathlib.Core.Path.{_≡_, sym, _∙_, ap}
+use mathlib.Core.Path.{_≡_, _∙_, ap}
 use borrow.Author.Needs.{needs}
 use borrow.Author.Tests.{eq-eqb, ne-eqb}
-use Prim.Native.Nat.{ℕ}
 use Rattle.arbiter.specs.declared.Registers.{Registers}
 use Rattle.arbiter.specs.Device.{countDown, fallen}
 use Rattle.arbiter.proofs.ticks.step.Statement.{statement}
