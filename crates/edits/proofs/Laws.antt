@@ -7,11 +7,11 @@ use native.Mathlib.Omega.{arith}
 use Prim.Native.Nat.{ℕ, _+_, _<_}
 use Rattle.runs.specs.Nodes.{Node}
 use Rattle.bytes.specs.Bytes.{byteAt, wordAt}
-use Rattle.rows.specs.Tests.{plainOk, valueOk}
+use Rattle.rows.specs.Tests.{plainOk, nodeValueOk, valueOk}
 use Rattle.nodes.specs.Nodes.{nodeAt}
 use Rattle.image.specs.Judged.{numberOf}
 use Rattle.image.specs.declared.Refusal.{Refusal}
-use Rattle.rows.proofs.Rules.{durations-kept}
+use Rattle.rows.proofs.Rules.{durations-kept, tested}
 use Rattle.figures.specs.declared.Answer.{Answer}
 use Rattle.figures.specs.Answers.{refused, resultOf, answer, tableAfter}
 use Rattle.figures.specs.Promise.{Equal}
@@ -53,8 +53,8 @@ module _ (s : List ℕ) (node lo hi : ℕ) (d : Editable s node lo hi) (small : 
     high = cc old
 
     old-range : plainOk l h ≡ true
-    unfolding valueOk
-    old-range = rw (low, high) (rw tag at (d .accepting .complete .passed (node + 2) (omega (arith, d .block .exists)) .value))
+    unfolding valueOk nodeValueOk
+    old-range = rw (low, high) (rw tag at (tested s (node + 2) (d .accepting .complete .passed (node + 2) (omega (arith, d .block .exists))) .value))
 
     undoable : Editable (imageWith s node lo hi) node l h
     undoable = record {

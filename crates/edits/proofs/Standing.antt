@@ -14,7 +14,7 @@ use Rattle.bytes.specs.Bytes.{byteAt, wordAt}
 use Rattle.bytes.proofs.Agreeing.{Agree, agree-part, agree-first, agree-here, agree-word, agree-bytes}
 use Rattle.schedule.specs.Said.{said}
 use Rattle.schedule.proofs.Writings.{agree-said}
-use Rattle.rows.specs.Tests.{lengthOk, valueOk, childrenOk}
+use Rattle.rows.specs.Tests.{nodeLengthOk, lengthOk, nodeValueOk, valueOk, childrenOk}
 use Rattle.rows.specs.Fields.{fieldAt, tagAt, lengthAt, bodyAt, GoodField}
 use Rattle.nodes.specs.Nodes.{nodeFrom, meant, nodeAt, treeAt}
 use Rattle.image.specs.Tasks.{startsOf}
@@ -22,11 +22,10 @@ use Rattle.image.specs.Conditions.{Accepting}
 use Rattle.image.specs.Judged.{judged}
 use Rattle.image.specs.declared.Verdict.the-variants.{Accepted}
 use Rattle.rows.proofs.Standing.{next-at, first-at, fewer}
-use Rattle.rows.proofs.Kept.{first-end, node-tag}
-use Rattle.rows.proofs.Rules.{kept-durations}
+use Rattle.rows.proofs.Kept.{first-end}
+use Rattle.rows.proofs.Rules.{kept-durations, tested, good as made}
 use Rattle.nodes.proofs.Levels.{falls}
 use Rattle.rows.proofs.Reading.{covers-row, agree-value, agree-children}
-use Rattle.image.proofs.Reading.{covers-node}
 use Rattle.nodes.proofs.Reading.{agree-node}
 use Rattle.image.proofs.Reasons.{accepted-when}
 use Rattle.edits.specs.Edits.{placeOf, imageWith}
@@ -62,11 +61,11 @@ module _ (s : List ℕ) (node lo hi : ℕ) (d : Editable s node lo hi) where
   tag = tag-of s node (d .outline) (d .block)
 
   four : lengthAt s (node + 2) ≡ 4
-  unfolding lengthOk
-  four = eqb-true (lengthAt s (node + 2)) 4 (rw tag at (here .len))
+  unfolding lengthOk nodeLengthOk
+  four = eqb-true (lengthAt s (node + 2)) 4 (rw tag at (tested s (node + 2) here .len))
 
   pub inside : placeOf s node + 3 + 4 ≤ length s
-  inside = omega (arith, here .body, four)
+  inside = omega (arith, tested s (node + 2) here .body, four)
 
   pub long : length after ≡ length s
   long = written-length s (placeOf s node + 3) lo hi
@@ -125,8 +124,9 @@ module _ (s : List ℕ) (node lo hi : ℕ) (d : Editable s node lo hi) where
   still-good : (j : ℕ) → j < d .outline .nodes + 2 → valueOk after (tagAt s j) (bodyAt s j) (lengthAt s j) ≡ true
       → childrenOk after (tagAt s j) (bodyAt s j) (lengthAt s j) j ≡ true → GoodField after j
   still-good j l v c =
-      let g = good j l in
-      record {
+      let g = tested s j (good j l) in
+      made after j
+      (record {
         head = rw (place-same j, long) (g .head);
         tag = rw (place-same j, tag-same j) (g .tag);
         room = g .room;
@@ -134,12 +134,12 @@ module _ (s : List ℕ) (node lo hi : ℕ) (d : Editable s node lo hi) where
         body = rw (place-same j, length-same j, long) (g .body);
         value = rw (place-same j, tag-same j, length-same j) v;
         children = rw (place-same j, tag-same j, length-same j) c;
-      }
+      })
 
   -- such as one with the same body
   body-good : (j : ℕ) → j < d .outline .nodes + 2 → Same (bodyAt s j) (lengthAt s j) → GoodField after j
   body-good j l h =
-      let g = good j l in
+      let g = tested s j (good j l) in
       let c = covers-row (tagAt s j) (lengthAt s j) (g .len) in
       still-good j l
       (agree-value s after (tagAt s j) (bodyAt s j) (bodyAt s j) (lengthAt s j) (lengthAt s j) c h (ap (λ (b : Bus). b .period) bus-same) (ap (λ (b : Bus). b .most) bus-same) ∙ g .value)
@@ -153,7 +153,7 @@ module _ (s : List ℕ) (node lo hi : ℕ) (d : Editable s node lo hi) where
   highest = written-highest s (placeOf s node + 3) lo hi inside
 
   own-good : GoodField after (node + 2)
-  unfolding valueOk childrenOk
+  unfolding valueOk nodeValueOk childrenOk
   own-good =
       still-good (node + 2) (omega (arith, d .block .exists)) (rw (tag, lowest, highest) (kept-durations lo hi (d .durations))) (rw tag)
 
@@ -169,15 +169,14 @@ module _ (s : List ℕ) (node lo hi : ℕ) (d : Editable s node lo hi) where
   pub node-other : (n : ℕ) → n < d .outline .nodes → (n ≡ node → ⊥) → nodeAt after n ≡ nodeAt s n
   unfolding nodeAt
   node-other n l ne =
-      let g = good (n + 2) (omega arith) in
+      let g = tested s (n + 2) (good (n + 2) (omega arith)) in
       let t = tagAt s (n + 2) in
       let m = lengthAt s (n + 2) in
       rw (place-same (n + 2), tag-same (n + 2), length-same (n + 2))
       (agree-node s after t (bodyAt s (n + 2)) (bodyAt s (n + 2)) m m (covers-row t m (g .len))
       (split node n
       (λ r. body-behind (n + 2) (let z : node < n = omega (arith, distinct r) in omega arith))
-      (λ r. body-before (n + 2) (omega arith)))
-      (covers-node t m (g .len) (node-tag n t (g .tag))))
+      (λ r. body-before (n + 2) (omega arith))))
     where
       distinct : node ≤ n → node < n
       distinct m = split n node (λ q. absurd (ne (omega arith))) (λ q. q)
@@ -218,7 +217,7 @@ module _ (s : List ℕ) (node lo hi : ℕ) (d : Editable s node lo hi) where
         starts = a .starts ∙ sym starts-word;
         lines = a .lines ∙ lines-same (nodeAt s) (nodeAt after) (d .outline .nodes) (λ i l. alike i (omega (arith, a .last)));
         sets = a .sets;
-        narrow = rw bus-same (a .narrow);
+        narrow = a .narrow;
       }
 
   pub still-accepted : judged after ≡ Accepted (d .outline)

@@ -53,7 +53,7 @@ fn find(image: &[u8], node: usize, lowest: usize, highest: usize) -> Found
             if bytes::byte(image, at) != 3 {
                 return Found::Refused(Refusal::Block, image.len());
             }
-            if !image::rows::plain_ok(lowest, highest) {
+            if !rows::plain_ok(lowest, highest) {
                 return Found::Refused(Refusal::Value, at);
             }
             Found::At(at)

@@ -28,7 +28,7 @@ use Rattle.figures.specs.Steps.{Answerable, Listing}
 
 -- the period of an accepted image is at most 256
 pub period-most : (s : List ℕ) (k : Outline) (places : List ℕ) → Answerable s k places → k .period ≤ 256
-period-most s k places a = rw (a .sound .period-is) (said-small s (a .sound .ranged) .0)
+period-most s k places a = rw (a .sound .accepting .period) (said-small s (a .sound .ranged) .0)
 
 -- what judging has shown of an image, with the bus that it says, is what both walks ask
 pub walkable : (s : List ℕ) (k : Outline) (places : List ℕ) → Answerable s k places → (b : Bus) → Fit b × SameBus (busMeant b) (said s)
@@ -50,8 +50,8 @@ module _ (s : List ℕ) (w : Walk) (places : List ℕ) (h : Walkable s w places)
   pub listing : (place : ℕ) → (place ≡ bodyAt s 1) × (place ≤ 65541) → Listing s place (w .bus .period) (w .outline .starts)
   listing place e = record {
     most = h .fit .most;
-    count = h .sound .starts-is;
-    few = h .sound .starts .few;
+    count = h .sound .accepting .starts;
+    few = h .sound .starts-few;
     below = λ i l. rw (e .0, period-said) (h .sound .starts .low i l);
     stands = e .0;
     near = e .1;

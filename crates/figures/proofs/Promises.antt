@@ -18,6 +18,7 @@ use Rattle.image.specs.declared.Refusal.{Refusal}
 use Rattle.image.specs.declared.Outline.{Outline}
 use Rattle.image.specs.declared.Verdict.{Verdict}
 use Rattle.image.specs.declared.Verdict.the-variants.{Accepted, Refused}
+use Rattle.image.proofs.Promises.{judged-sound}
 use Rattle.image.proofs.Reasons.{when-accepted}
 use Rattle.image.proofs.Sounds.{ranged-kept, accepted}
 use Rattle.figures.specs.declared.Totals.{Totals}
@@ -33,7 +34,7 @@ use Rattle.figures.proofs.Accesses.{by-algorithms}
 -- what judging has shown is what the figures ask
 pub answerable : (s places : List ℕ) (v : Verdict) (k : Outline) → Judging s v places → v ≡ Accepted k → Answerable s k places
 answerable s places v k j e =
-    record { sound = j .sound k e; accepted = accepted s k (sym (j .is) ∙ e) }
+    record { sound = judged-sound s places v k j e; accepted = accepted s k (sym (j .is) ∙ e) }
 
 pub refused-equal : (s before : List ℕ) (r : Refusal) (place : ℕ) → judged s ≡ Refused r place → Equal s before (NotGiven r place) before
 refused-equal s before r place e = record { result = rw e; table = rw e }

@@ -14,7 +14,7 @@ use Rattle.runs.specs.Lines.{power}
 use Rattle.runs.specs.Clock.{withLines}
 use Rattle.runs.specs.Nodes.{Tree, visits}
 use Rattle.runs.specs.Runs.{isStart}
-use Rattle.runs.specs.Carried.{row, joinBelow}
+use Rattle.runs.specs.Carried.{joinBelow}
 use Rattle.runs.specs.Figures.{Time, noTime, longer, startTimes, times, cost, atOffsets, published}
 use Rattle.runs.proofs.Cases.{split}
 use Rattle.runs.proofs.Joins.{row-same, longer-joins}
@@ -49,7 +49,7 @@ no-line (suc n) h = let z : 1 ≤ 0 = omega (arith, power-pos n) in absurd (not-
 
 module _ (s : List ℕ) (w : Walk) (places : List ℕ) (ok : Walkable s w places) where
   few : visits (treeAt s (w .outline .entry)) ≤ 100000
-  few = ok .sound .short
+  few = ok .sound .accepting .short
 
   abbrev P : ℕ
   P = w .bus .period
@@ -63,12 +63,12 @@ module _ (s : List ℕ) (w : Walk) (places : List ℕ) (ok : Walkable s w places
   low-start t p l e = rw (lt-ltb p P l) e
 
   single : w .outline .sets ≤ 1 → w .outline .lines ≡ 0
-  single h = no-line (w .outline .lines) (omega (arith, ok .sound .sets-is))
+  single h = no-line (w .outline .lines) (omega (arith, ok .sound .accepting .sets))
 
   -- one row: the array of the starts is the table; and else its places are the first row
   pub started-row : (t : List ℕ) → w .outline .sets ≤ 1 → Started s (w .bus .period) t → StartedAt s w t
   started-row t h e =
-      let m : power (w .outline .lines) ≤ 1 = omega (arith, ok .sound .sets-is) in
+      let m : power (w .outline .lines) ≤ 1 = omega (arith, ok .sound .accepting .sets) in
       start-table t (λ p l. let b : p < P = omega (arith, mul-le-mul-right P m) in low-start t p b (e p b))
 
   pub started-rows : (start t : List ℕ) → Started s (w .bus .period) start → Put (replicate 1024 noTime) 0 (w .bus .period) start t → StartedAt s w t
@@ -102,7 +102,7 @@ module _ (s : List ℕ) (w : Walk) (places : List ℕ) (ok : Walkable s w places
   }
 
   pub some-set : 1 ≤ w .outline .sets
-  some-set = rw (ok .sound .sets-is) (power-pos (w .outline .lines))
+  some-set = rw (ok .sound .accepting .sets) (power-pos (w .outline .lines))
 
   -- the rows that the walk starts from, and those that it leaves
   module _ (start t : List ℕ) (e : Started s (w .bus .period) start) (u : Put (replicate 1024 noTime) 0 (w .bus .period) start t) where
@@ -118,7 +118,7 @@ module _ (s : List ℕ) (w : Walk) (places : List ℕ) (ok : Walkable s w places
       fit = ok .fit;
       few = omega (arith, sized s w places ok .few);
       long =
-          let all : w .outline .sets * w .bus .period ≤ length r = rw (ok .sound .sets-is) (omega (arith, h .size, rows-long)) in
+          let all : w .outline .sets * w .bus .period ≤ length r = rw (ok .sound .accepting .sets) (omega (arith, h .size, rows-long)) in
           omega (arith, mul-le-mul-right (w .bus .period) l);
     }
 

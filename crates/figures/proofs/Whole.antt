@@ -1,28 +1,24 @@
 -- Demand 3 from the theorem about runs: what the table lists are the longest times, and they are numbers that differ from that of no time.
-use mathlib.Core.Path.{_≡_, refl, sym, _∙_, ap, subst}
-use mathlib.Core.Bool.{Bool, true, false, cond}
+use mathlib.Core.Path.{_≡_, refl, _∙_, ap}
+use mathlib.Core.Bool.{cond}
 use mathlib.Core.Option.{none, some}
 use mathlib.Core.List.{List, _++_}
-use lib.ListN.{getD, length, List·getD-append}
+use lib.ListN.{getD, List·getD-append}
 use native.Mathlib.Numerals.{add-one}
 use native.Mathlib.Nat.{add-zero, mul-le-mul-left}
 use native.Mathlib.Omega.{arith}
-use Prim.Native.Nat.{ℕ, zero, suc, _+_, _*_, _≤_, _<_}
+use Prim.Native.Nat.{ℕ, zero, suc, _+_, _≤_, _<_}
 use Rattle.runs.specs.Clock.{State}
 use Rattle.runs.specs.Nodes.{visits}
-use Rattle.runs.specs.Runs.{Task, placesOf, Run, finalOffset, Ends}
+use Rattle.runs.specs.Runs.{Task, Run, finalOffset, Ends}
 use Rattle.runs.specs.Carried.{row}
 use Rattle.runs.specs.Figures.{Time, noTime, entryOf, held, sum, treeOf, exitTimes, exitCount, tight, published}
 use Rattle.runs.specs.Exact.{Longest, nothing, reached, ValidTask, Exact}
+use Rattle.runs.proofs.Joins.{row-length}
 use Rattle.runs.proofs.Meanings.{row-at}
 use Rattle.runs.proofs.TimesExact.{longest-some}
 use Rattle.runs.proofs.Whole.{whole-exact, tight-number, run-inside}
 use Rattle.figures.specs.WholeRuns.{Listed, Counted, none as no-numbers, one-more, no-more, EndsAt, WholeRuns}
-
-pub row-length : {A : Type 0} (n : ℕ) (f : ℕ → A) → length (row n f) ≡ n
-unfolding row
-row-length zero f = refl
-row-length (suc n) f = ap suc (row-length n (λ i. f (suc i)))
 
 -- a longest time is none only where there is no count
 longest-has : {C : ℕ → Type 0} {v : Time} → Longest C v → (c : ℕ) → C c → (m : ℕ) × (v ≡ some m) × (c ≤ m)

@@ -80,7 +80,7 @@ pub time-permitted : (s lent : List ℕ) (k : Outline) (tight published exits : 
 time-permitted s lent k tight published exits e h = figures-most s lent k e tight published exits _ (sym (rw e at h)) refl
 
 -- P starts, ascending and below P, are the offsets themselves
-module _ (s : List ℕ) (P : ℕ) (h : Starts s P P) where
+module _ (s : List ℕ) (P : ℕ) (h : Starts s (bodyAt s 1) P P) where
   no-lower : (i : ℕ) → i < P → i ≤ byteAt s (bodyAt s 1 + i)
   no-lower zero l = omega arith
   no-lower (suc i) l = omega (arith, no-lower i (omega arith), h .ascend i (suc i) (omega arith) l)
@@ -97,7 +97,7 @@ pub lists-every : (s : List ℕ) (k : Outline) → judged s ≡ Accepted k → l
 lists-every s k e full o l =
     let a = when-accepted s k e in
     let many : k .starts ≡ k .period = a .starts ∙ full in
-    let h : Starts s (k .period) (k .period) = rw (many, ← (a .period)) at (starts-kept s k a) in
+    let h : Starts s (bodyAt s 1) (k .period) (k .period) = rw (many, ← (a .period)) at (starts-kept s k a) in
     let this : byteAt s (bodyAt s 1 + o) ≡ o = start-is s (k .period) h o (omega (arith, a .period, l)) in
     subst (λ (x : ℕ). isStart (startsOf s) x ≡ true) this (is-listed s (bodyAt s 1) (lengthAt s 1) o (omega (arith, full, a .period, l)))
 

@@ -9,7 +9,7 @@ use lib.Seq.{take-all}
 use native.Mathlib.Omega.{arith}
 use Prim.Native.Nat.{ℕ, _≤_, _<_}
 use Rattle.bytes.specs.Bytes.{byteAt}
-use Rattle.image.specs.Judged.{Outcome, outcomeOf, outcome, numberOf}
+use Rattle.image.specs.Judged.{outcomeOf, outcome, numberOf}
 use Rattle.image.specs.Promise.{Judging}
 use Rattle.image.specs.declared.Refusal.{Refusal}
 use Rattle.image.specs.declared.Outline.{Outline}
@@ -58,12 +58,12 @@ module _ (s lent : List ℕ) where
     unfolding judgeCall
     judge-is =
         ap (λ (t : Bool). cond t (2, lent) (judgedInto (outcome s) lent)) (le-ltb (length lent) 2 long)
-        ∙ ap (λ (o : Outcome). judgedInto o lent) (sym (j .numbered))
+        ∙ ap (λ (x : Verdict). judgedInto (outcomeOf s x) lent) (sym (j .is))
 
     pub judge-accepted : (k : Outline) (after : List ℕ) → v ≡ Accepted k → after ≡ 0 ∷ k .period ∷ drop 2 lent → judgeCall s lent ≡ (0, after)
     judge-accepted k after e h =
         judge-is ∙ ap (λ (x : Verdict). judgedInto (outcomeOf s x) lent) e
-        ∙ ap (λ (n : ℕ). (0, 0 ∷ n ∷ drop 2 lent)) (sym (j .sound k e .period-is)) ∙ ap (λ (l : List ℕ). (0, l)) (sym h)
+        ∙ ap (λ (n : ℕ). (0, 0 ∷ n ∷ drop 2 lent)) (sym (j .accepted k e .period)) ∙ ap (λ (l : List ℕ). (0, l)) (sym h)
 
     pub judge-refused : (r : Refusal) (place : ℕ) (call : ℕ × List ℕ) → v ≡ Refused r place → refusedInto (numberOf r) place lent ≡ call
         → judgeCall s lent ≡ call

@@ -1,14 +1,15 @@
 -- The node of a good field keeps the rules of its row.
 use mathlib.Core.Path.{_≡_}
+use mathlib.Core.Logic.{_⊎_, ⊎-elim}
 use mathlib.Core.List.{List}
 use Prim.Native.Nat.{ℕ, _+_, _-_, _/_, _≤_}
 use native.Mathlib.Omega.{arith}
 use lib.ListN.{length}
-use Rattle.rows.specs.Rules.{LengthRule, Durations, ValueRule, NamesBelow, ChildRule}
+use Rattle.rows.specs.Rules.{LengthRule, ValueRule, NamesBelow, ChildRule}
 use Rattle.rows.specs.Fields.{fieldAt, tagAt, lengthAt, bodyAt, GoodField}
 use Rattle.nodes.specs.Nodes.{nodeFrom, nodeOf}
 use Rattle.nodes.specs.Fine.{Fine}
-use Rattle.rows.proofs.Kept.{good-length, good-body, good-value}
+use Rattle.rows.proofs.Kept.{good-tag, good-length, good-body, good-value, node-tag}
 
 -- for the node `own` whose body of n bytes stands at b
 module _ (s : List ℕ) (b own : ℕ) where
@@ -24,23 +25,19 @@ module _ (s : List ℕ) (b own : ℕ) where
   parent-fine t n inside lo hi c (LengthRule.schedule e l h (m, w)) = absurd (omega arith)
   parent-fine t n inside lo hi c (LengthRule.once e l) = absurd (omega arith)
 
-  -- no other tag is a node's, and then there is nothing to keep
-  nothing : Durations 0 0
-  nothing = record { most = omega arith; order = omega arith; near = omega arith }
-
-  fine-by : (t n : ℕ) → b + n ≤ length s → LengthRule t n → ChildRule s t b n own → ValueRule s t b n → Fine s own (nodeFrom s t b n)
+  fine-by : (t n : ℕ) → (t ≡ 10) ⊎ ((3 ≤ t) × (t ≤ 7)) → b + n ≤ length s → LengthRule t n → ChildRule s t b n own → ValueRule s t b n → Fine s own (nodeFrom s t b n)
   unfolding nodeFrom Fine
-  fine-by t n inside l c (ValueRule.plain e h) = rw e h
-  fine-by t n inside l c (ValueRule.block e k h) = rw e h
-  fine-by t n inside l c (ValueRule.children lo hi) = parent-fine t n inside lo hi (c .children lo hi) l
-  fine-by t n inside l c (ValueRule.loop e h) = rw e (h, c .loop e)
-  fine-by t n inside l c (ValueRule.once e h) = rw e h
-  fine-by t n inside l c (ValueRule.bus e h) = rw e nothing
-  fine-by t n inside l c (ValueRule.starts e h) = rw e nothing
-  fine-by t n inside l c (ValueRule.schedule e h) = rw e nothing
+  fine-by t n r inside l c (ValueRule.plain e h) = rw e h
+  fine-by t n r inside l c (ValueRule.block e k h) = rw e h
+  fine-by t n r inside l c (ValueRule.children lo hi) = parent-fine t n inside lo hi (c .children lo hi) l
+  fine-by t n r inside l c (ValueRule.loop e h) = rw e (h, c .loop e)
+  fine-by t n r inside l c (ValueRule.once e h) = rw e h
+  fine-by t n r inside l c (ValueRule.bus e h) = absurd (⊎-elim (λ q. omega arith) (λ (lo, hi). omega arith) r)
+  fine-by t n r inside l c (ValueRule.starts e h) = absurd (⊎-elim (λ q. omega arith) (λ (lo, hi). omega arith) r)
+  fine-by t n r inside l c (ValueRule.schedule e h) = absurd (⊎-elim (λ q. omega arith) (λ (lo, hi). omega arith) r)
 
 pub node-fine : (s : List ℕ) (own : ℕ) → GoodField s (own + 2) → Fine s own (nodeOf s (fieldAt s (own + 2)))
 node-fine s own g =
     let k = own + 2 in
     let e : k - 2 ≡ own = omega arith in
-    fine-by s (bodyAt s k) own (tagAt s k) (lengthAt s k) (good-body s k g) (good-length s k g) (rw e at (g .1)) (good-value s k g)
+    fine-by s (bodyAt s k) own (tagAt s k) (lengthAt s k) (node-tag own (tagAt s k) (good-tag s k g)) (good-body s k g) (good-length s k g) (rw e at (g .1)) (good-value s k g)

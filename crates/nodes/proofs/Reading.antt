@@ -1,5 +1,5 @@
 -- The node of a field depends on its own bytes: where two images agree on these, wherever the field stands in each, it is the same.
-use mathlib.Core.Path.{_≡_, refl, ap}
+use mathlib.Core.Path.{_≡_, ap}
 use mathlib.Core.List.{List}
 use lib.Dec.{eqb}
 use native.Mathlib.Omega.{arith}
@@ -28,4 +28,4 @@ module _ (s e : List ℕ) (tag p q n m : ℕ) (c : Covers tag n m) (h : Agree s 
       (λ is. let l = c .loop is in rw (word-here s e p q m h (omega arith), agree-word s e p q m 2 h (omega arith), agree-word s e p q m 4 h (omega arith)))
       (λ n7. by-both (λ x y. meant e x ≡ meant s y) (eqb tag 10) _ _ _ _
       (λ is. let l = c .once is in rw (agree-here s e p q m h (omega arith), h 1 (omega arith), h 2 (omega arith), agree-word s e p q m 3 h (omega arith)))
-      (λ n10. refl)))))
+      (λ n10. ap RunNode.sequence (agree-words s e p q 0 (agree-first s e p q m 0 h (omega arith))))))))

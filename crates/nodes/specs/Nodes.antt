@@ -17,7 +17,7 @@ use Rattle.rows.specs.Fields.{fieldAt}
 abbrev pub kindOf : ℕ → Kind
 kindOf kind = cond (eqb kind 1) May Always
 
--- "Body", rows 3 to 7 and 10: the node of a tag whose body of n bytes stands at a place. No node field has another tag: that would be a block of no cycles
+-- "Body", rows 3 to 7 and 10: the node of a tag whose body of n bytes stands at a place. No node field has another tag: that would be a sequence of no children
 unfoldable pub nodeFrom : List ℕ → ℕ → ℕ → ℕ → Node
 nodeFrom s tag body n =
     cond (eqb tag 3) (Plain (record { lowest = wordAt s body; highest = wordAt s (body + 2) }))
@@ -29,7 +29,7 @@ nodeFrom s tag body n =
     (Loop (record { least = wordAt s body; greatest = wordAt s (body + 2); body = wordAt s (body + 4) }))
     (cond (eqb tag 10)
     (Once (record { line = byteAt s body; lowest = byteAt s (body + 1); highest = byteAt s (body + 2); hit = wordAt s (body + 3) }))
-    (Plain (record { lowest = 0; highest = 0 }))))))
+    (Sequence (record { place = body; count = 0 }))))))
 
 -- the node whose field stands at a place, as the code has it: child numbers stay in the image
 abbrev pub nodeOf : List ℕ → ℕ → Node

@@ -106,9 +106,9 @@ pub fn node_at(image: &[u8], at: usize) -> Node
             highest: byte(image, body + 2),
             hit: word(image, body + 3),
         }),
-        _ => Node::Plain(Plain {
-            lowest: 0,
-            highest: 0,
+        _ => Node::Sequence(Children {
+            place: body,
+            count: 0,
         }),
     }
 }

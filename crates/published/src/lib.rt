@@ -17,13 +17,13 @@ ghost use Rattle.published.specs.Steps.{Ready, ReadyAll, ReadyRepeat, Re
 use bus::Bus;
 use cycles::Watch;
 use image::Walk;
-use image::nodes::BusBlock;
-use image::nodes::Children;
-use image::nodes::Kind;
-use image::nodes::Loop;
-use image::nodes::Node;
-use image::nodes::Once;
-use image::nodes::Plain;
+use nodes::BusBlock;
+use nodes::Children;
+use nodes::Kind;
+use nodes::Loop;
+use nodes::Node;
+use nodes::Once;
+use nodes::Plain;
 use offsets::Set;
 
 // A result of the algorithms: the cost in cycles, and the exit offsets.
@@ -203,7 +203,7 @@ pub fn walk(image: &[u8], places: &[usize; 256], k: Walk, node: usize, s: Set) -
     ensures { λ r. ⌜ Published (k .bus) (treeAt (now (image .entry)) node) s r ⌝ }
 {
     let at = places[node];
-    let n = image::nodes::node_at(image, at);
+    let n = nodes::node_at(image, at);
     let b = k.bus;
     match n {
         Node::Plain(p) => plain_outcome(b, p, s),

@@ -27,16 +27,16 @@ module _ (s : List ℕ) (k : Walk) (places : List ℕ) (w : Walkable s k places)
   pub sized : Sized k
   sized = record {
     fit = w .fit;
-    sets-is = w .sound .sets-is;
-    few = rw (w .sound .sets-is) (few-sets (k .outline .lines) (w .sound .lines-few));
+    sets-is = w .sound .accepting .sets;
+    few = rw (w .sound .accepting .sets) (few-sets (k .outline .lines) (w .sound .lines-few));
   }
 
   pub wide-size : sizeOf k ≤ 1024
-  wide-size = rw (← w .sound .sets-is, period-same s k places w) (omega (arith, w .sound .narrow, mul-comm (k .outline .period) (k .outline .sets)))
+  wide-size = rw (← w .sound .accepting .sets, period-same s k places w) (omega (arith, w .sound .accepting .narrow, mul-comm (k .outline .period) (k .outline .sets)))
 
   pub narrow-size : k .outline .sets ≤ 1 → sizeOf k ≤ 256
   narrow-size h =
-      let m : power (k .outline .lines) ≤ 1 = omega (arith, w .sound .sets-is) in
+      let m : power (k .outline .lines) ≤ 1 = omega (arith, w .sound .accepting .sets) in
       omega (arith, w .fit .most, mul-le-mul-right (k .bus .period) m)
 
 module _ (s : List ℕ) (k : Walk) (places : List ℕ) (node : ℕ) (t : List ℕ) (r : Ready s k places node t) where

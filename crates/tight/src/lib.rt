@@ -17,14 +17,14 @@ ghost use Rattle.iterations.specs.Iterations.{Empty};
 ghost use Rattle.tight.specs.Steps.{sizeOf, table, afterAll, Walked, Sized, PlainReady, BusReady, OnceReady, Ready, ReadyAll, ReadyRepeat, ReadyLoop, Unrolls, Branched};
 use cycles::Watch;
 use image::Walk;
-use image::nodes::BusBlock;
-use image::nodes::Children;
-use image::nodes::Kind;
-use image::nodes::Loop;
-use image::nodes::Node;
-use image::nodes::Once;
-use image::nodes::Plain;
 use lined::Step;
+use nodes::BusBlock;
+use nodes::Children;
+use nodes::Kind;
+use nodes::Loop;
+use nodes::Node;
+use nodes::Once;
+use nodes::Plain;
 
 // How many places a table has.
 fn size(k: Walk) -> usize
@@ -66,7 +66,7 @@ fn once_block(k: Walk, x: Once, t: &mut [u64])
     requires { ⌜ OnceReady k (x .line) (x .lowest) (x .highest) (x .hit) (now t) ⌝ }
     ensures { λ _. ⌜ Walked k (Tree.once (x .line) (x .lowest) (x .highest) (x .hit)) (now (t .entry)) (now (t .exit)) ⌝ }
 {
-    let weight = image::fetched::power(x.line);
+    let weight = nodes::fetched::power(x.line);
     lined::once(k.bus, x.lowest, x.highest, x.hit, weight, k.outline.sets, t);
 }
 
@@ -76,7 +76,7 @@ pub fn walk(image: &[u8], places: &[usize; 256], k: Walk, node: usize, t: &mut [
     ensures { λ _. ⌜ Walked k (treeAt (now (image .entry)) node) (now (t .entry)) (now (t .exit)) ⌝ }
 {
     let at = places[node];
-    let n = image::nodes::node_at(image, at);
+    let n = nodes::node_at(image, at);
     match n {
         Node::Plain(p) => plain_block(k, p, t),
         Node::Bus(x) => bus_block(k, x, t),

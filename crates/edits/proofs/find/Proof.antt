@@ -5,6 +5,7 @@ use mathlib.Core.Path.{sym, _∙_}
 use lib.ListN.{getD}
 use native.Mathlib.Omega.{arith}
 use Prim.Native.Nat.{_<_}
+use Rattle.image.proofs.Promises.{judged-sound}
 use Rattle.edits.proofs.Finds.{Tagged, refused-found, none-found, other-found, range-found, at-found}
 use Rattle.edits.proofs.find.Statement.{statement}
 use Rattle.edits.proofs.find.Tie as tie
@@ -20,7 +21,7 @@ tagged c =
     let j = c .before .before .before .before .before .before .before .judge in
     let v = c .before .before .before .before .verdict2 .given in
     let l : a .node < v .0 .0 .nodes = omega arith in
-    record { judged-so = sym (j .ensures .is) ∙ v .1; exists = l; place = j .ensures .sound (v .0 .0) (v .1) .placed (a .node) l; read = c .byte .ensures .0 }
+    record { judged-so = sym (j .ensures .is) ∙ v .1; exists = l; place = judged-sound _ _ _ (v .0 .0) (j .ensures) (v .1) .placed (a .node) l; read = c .byte .ensures .0 }
 
 judge-requires : tie.Need-judge-requires
 judge-requires c κs = search needs
@@ -42,13 +43,13 @@ mul-at : tie.Need-mul-at
 mul-at c =
     let j = c .before .before .before .before .before .before .judge in
     let v = c .before .before .before .verdict2 .given in
-    omega (arith, j .ensures .sound (v .0 .0) (v .1) .few)
+    omega (arith, judged-sound _ _ _ (v .0 .0) (j .ensures) (v .1) .few)
 
 array-read-at : tie.Need-array-read-at
 array-read-at c =
     let j = c .before .before .before .before .before .before .judge in
     let v = c .before .before .before .verdict2 .given in
-    omega (arith, j .ensures .sound (v .0 .0) (v .1) .few)
+    omega (arith, judged-sound _ _ _ (v .0 .0) (j .ensures) (v .1) .few)
 
 byte-requires : tie.Need-byte-requires
 byte-requires c κs = search needs

@@ -60,7 +60,7 @@ returns-2 c =
     let a = s .args in
     let t = c .before .before .before .before .before .before .before .before .exit-times in
     let long : length (t .result) ≡ 256 = search needs in
-    answered-given (a .image .now) (a .k) (a .table .now) (t .result) (c .before .before .before .before .before .fill .last .0) _ (s .pre .sound .period-is)
+    answered-given (a .image .now) (a .k) (a .table .now) (t .result) (c .before .before .before .before .before .fill .last .0) _ (s .pre .sound .accepting .period)
     (omega (arith, c .before .before .before .before .before .before .before .before .before .before .if1 .left)) (omega (arith, period-most (a .image .now) (a .k) (a .places .now) (s .pre)))
     (t .ensures) (c .before .before .before .before .before .fill .ensures) (c .before .before .longest .ensures) (c .before .published-cost .ensures) (c .exit-count .ensures)
 

@@ -39,7 +39,7 @@ returns c =
     times-ended (a .image .now) (a .w) (a .places .now) (s .pre .0) _ _ (c .at-offsets .result)
     (started-rows (a .image .now) (a .w) (a .places .now) (s .pre .0) (a .start .now) _ (s .pre .1) (c .before .before .before .before .before .before .put .ensures))
     (c .before .before .before .walk .ensures)
-    (c .at-offsets .ensures (a .w .outline .lines) (s .pre .0 .sound .sets-is))
+    (c .at-offsets .ensures (a .w .outline .lines) (s .pre .0 .sound .accepting .sets))
 
 pub over-lines-spec : {M : Type 1} → statement M
 over-lines-spec = tie.close (tie.spec slice-aggregate-put put-requires slice-aggregate-walk walk-requires slice-aggregate-at-offsets at-offsets-requires returns)

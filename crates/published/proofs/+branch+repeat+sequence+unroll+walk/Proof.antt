@@ -37,7 +37,7 @@ use Rattle.published.proofs.+branch+repeat+sequence+unroll+walk.Lts-unr
 use Rattle.published.proofs.walk.Reads as walk
 use Rattle.published.proofs.walk.Kinds as walk-kinds
 use Rattle.published.proofs.+branch+repeat+sequence+unroll+walk.Lts-walk as walk-lts
-use Rattle.image.proofs.nodes.node_at.Reads as node-at-reads
+use Rattle.nodes.proofs.node_at.Reads as node-at-reads
 use Rattle.bytes.proofs.word.Reads as word-reads
 use Rattle.offsets.proofs.empty.Reads as empty-reads
 use Rattle.offsets.proofs.join.Reads as join-reads

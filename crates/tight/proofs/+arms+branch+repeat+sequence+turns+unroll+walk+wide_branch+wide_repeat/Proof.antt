@@ -48,7 +48,7 @@ use Rattle.tight.proofs.+arms+branch+repeat+sequence+turns+unroll+walk+
 use Rattle.tight.proofs.wide_repeat.Reads as wide-repeat
 use Rattle.tight.proofs.wide_repeat.Kinds as wide-repeat-kinds
 use Rattle.tight.proofs.+arms+branch+repeat+sequence+turns+unroll+walk+wide_branch+wide_repeat.Lts-wide_repeat as wide-repeat-lts
-use Rattle.image.proofs.nodes.node_at.Reads as node-at-reads
+use Rattle.nodes.proofs.node_at.Reads as node-at-reads
 use Rattle.bytes.proofs.word.Reads as word-reads
 use Rattle.iterations.proofs.before_first.Reads as before-first-reads
 use Rattle.tight.proofs.bus_block.Reads as bus-block-reads
