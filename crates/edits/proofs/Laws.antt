@@ -12,9 +12,9 @@ use Rattle.nodes.specs.Nodes.{nodeAt}
 use Rattle.image.specs.Judged.{numberOf}
 use Rattle.image.specs.declared.Refusal.{Refusal}
 use Rattle.rows.proofs.Rules.{durations-kept, tested}
-use Rattle.figures.specs.declared.Answer.{Answer}
-use Rattle.figures.specs.Answers.{refused, resultOf, answer, tableAfter}
-use Rattle.figures.specs.Promise.{Equal}
+use Rattle.answers.specs.declared.Answer.{Answer}
+use Rattle.answers.specs.Answers.{refused, resultOf, answer, tableAfter}
+use Rattle.answers.specs.Promise.{Equal}
 use Rattle.edits.specs.declared.Edited.the-variants.{Done, Refused as NotDone}
 use Rattle.edits.specs.Edits.{Change, done, placeOf, imageWith, change, imageFor, imageAfter, previewOf, previewTable}
 use Rattle.edits.specs.Promise.{Editable, Editing, Restores, Leaves, Previewing}

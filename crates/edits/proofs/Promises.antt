@@ -13,11 +13,11 @@ use Rattle.image.specs.Judged.{numberOf}
 use Rattle.image.specs.Tasks.{taskOf}
 use Rattle.image.specs.declared.Refusal.{Refusal}
 use Rattle.image.specs.declared.Refusal.the-variants.{Cut, Tag, Full, Length, Value, Forward, Unfinished, Deep, Long, Table, Register, Busy, Forbidden, Lines, Block}
-use Rattle.figures.specs.declared.Totals.{Totals}
-use Rattle.figures.specs.declared.Answer.{Answer}
-use Rattle.figures.specs.declared.Answer.the-variants.{Given, Refused as NotGiven}
-use Rattle.figures.specs.Answers.{refused, resultOf, figuresOf}
-use Rattle.figures.specs.Promise.{Equal, Demand3, Demand2}
+use Rattle.answers.specs.declared.Totals.{Totals}
+use Rattle.answers.specs.declared.Answer.{Answer}
+use Rattle.answers.specs.declared.Answer.the-variants.{Given, Refused as NotGiven}
+use Rattle.answers.specs.Answers.{refused, resultOf, figuresOf}
+use Rattle.answers.specs.Promise.{Equal, Demand3, Demand2}
 use Rattle.edits.specs.declared.Found.{Found}
 use Rattle.edits.specs.declared.Found.the-variants.{At, Refused as NotFound}
 use Rattle.edits.specs.declared.Edited.the-variants.{Done, Refused as NotDone}

@@ -15,7 +15,7 @@ use Rattle.rows.specs.Tests.{tagOk, nodeLengthOk, lengthOk, startsOk, plainOk, 
 use Rattle.image.specs.Judged.{fieldOf, scanFrom, scan, wholeOf, judged}
 use Rattle.rows.specs.Fields.{fieldAt}
 use Rattle.nodes.specs.Nodes.{nodeFrom, meant, nodeAt}
-use Rattle.figures.specs.Answers.{given, refused}
+use Rattle.answers.specs.Answers.{given, refused}
 use Rattle.edits.specs.Edits.{Change, done, withDurations, found, change, imageAfter, previewOf, previewTable}
 use Rattle.edits.specs.Promise.{Editable}
 use Rattle.edits.proofs.Finds.{when-found}

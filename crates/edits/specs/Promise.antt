@@ -15,12 +15,12 @@ use Rattle.image.specs.declared.Refusal.{Refusal}
 use Rattle.image.specs.declared.Refusal.the-variants.{Value, Table, Block}
 use Rattle.image.specs.declared.Outline.{Outline}
 use Rattle.image.specs.declared.Verdict.the-variants.{Accepted}
-use Rattle.figures.specs.declared.Totals.{Totals}
-use Rattle.figures.specs.declared.Answer.{Answer}
-use Rattle.figures.specs.declared.Answer.the-variants.{Given, Refused as NotGiven}
-use Rattle.figures.specs.Answers.{resultOf}
-use Rattle.figures.specs.WholeRuns.{WholeRuns}
-use Rattle.figures.specs.Promise.{ByAlgorithms}
+use Rattle.answers.specs.declared.Totals.{Totals}
+use Rattle.answers.specs.declared.Answer.{Answer}
+use Rattle.answers.specs.declared.Answer.the-variants.{Given, Refused as NotGiven}
+use Rattle.answers.specs.Answers.{resultOf}
+use Rattle.answers.specs.WholeRuns.{WholeRuns}
+use Rattle.answers.specs.Promise.{ByAlgorithms}
 use Rattle.edits.specs.Edits.{placeOf, imageWith, changeOf, change, imageAfter, previewOf, previewTable}
 use Rattle.edits.specs.declared.Edited.{Edited}
 use Rattle.edits.specs.declared.Edited.the-variants.{Done, Refused as NotDone}

@@ -13,11 +13,11 @@ ghost use mathlib.Core.List.{_++_};
 ghost use Prim.Native.Nat.{_+_, _≤_};
 ghost use lib.ListN.{length, drop};
 ghost use Rattle.image.specs.Conditions.{longestImage};
-ghost use Rattle.figures.specs.Promise.{Equal, Demand3, Demand2};
+ghost use Rattle.answers.specs.Promise.{Equal, Demand3, Demand2};
 ghost use Rattle.edits.specs.Edits.{withDurations};
 ghost use Rattle.edits.specs.Promise.{Editing, EditDone, Previewing, PreviewGiven};
 ghost use Rattle.edits.specs.Steps.{Room, Finding};
-use figures::Answer;
+use answers::Answer;
 use image::Refusal;
 use image::Verdict;
 

@@ -10,10 +10,26 @@ use Rattle.image.specs.Tasks.{taskOf}
 use Rattle.image.specs.declared.Refusal.the-variants.{Table}
 use Rattle.image.specs.declared.Outline.{Outline}
 use Rattle.times.specs.Arrays.{timeOf, tableOf}
-use Rattle.figures.specs.declared.Totals.{Totals}
-use Rattle.figures.specs.declared.Answer.the-variants.{Given, Refused as NotGiven}
-use Rattle.figures.specs.Steps.{Ended, Answered, holding}
+use Rattle.answers.specs.declared.Totals.{Totals}
+use Rattle.answers.specs.declared.Answer.the-variants.{Given, Refused as NotGiven}
+use Rattle.figures.specs.Steps.{Ended, Answered, holding, Answerable}
 use Rattle.figures.proofs.Entries.{tight-entry, count-entries, table-entries}
+use mathlib.Core.Path.{_≡_, sym, _∙_}
+use mathlib.Core.List.{List}
+use lib.ListN.{length}
+use borrow.Author.Tests.{le-ltb}
+use Prim.Native.Nat.{ℕ, _≤_}
+use Rattle.image.specs.Judged.{judged}
+use Rattle.image.specs.Promise.{Judging}
+use Rattle.image.specs.declared.Outline.{Outline}
+use Rattle.image.specs.declared.Verdict.{Verdict}
+use Rattle.image.specs.declared.Verdict.the-variants.{Accepted}
+use Rattle.image.proofs.Promises.{judged-sound}
+use Rattle.image.proofs.Sounds.{accepted}
+use Rattle.answers.specs.declared.Totals.{Totals}
+use Rattle.answers.specs.declared.Answer.{Answer}
+use Rattle.answers.specs.declared.Answer.the-variants.{Given, Refused as NotGiven}
+use Rattle.answers.specs.Promise.{Equal}
 
 module _ (s : List ℕ) (k : Outline) (before : List ℕ) where
   -- fewer than P places lent
@@ -34,3 +50,12 @@ module _ (s : List ℕ) (k : Outline) (before : List ℕ) where
         rw (le-ltb (length before) (k .period) long)
         (rw is ((rw is at filled') ∙ table-entries s k t ended before (rw is at full)));
   }
+
+-- what judging has shown is what the figures ask
+pub answerable : (s places : List ℕ) (v : Verdict) (k : Outline) → Judging s v places → v ≡ Accepted k → Answerable s k places
+answerable s places v k j e =
+    record { sound = judged-sound s places v k j e; accepted = accepted s k (sym (j .is) ∙ e) }
+
+-- so the answer for an accepted image is the definition's
+pub given-equal : (s before : List ℕ) (k : Outline) → judged s ≡ Accepted k → (r : Answer) (after : List ℕ) → Answered s k before r after → Equal s before r after
+given-equal s before k e r after a = record { result = rw e (a .result); table = rw e (a .table) }

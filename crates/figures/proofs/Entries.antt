@@ -16,7 +16,7 @@ use Rattle.image.specs.Tasks.{taskOf}
 use Rattle.image.specs.declared.Outline.{Outline}
 use Rattle.times.specs.Arrays.{timeOf, tableOf}
 use Rattle.times.proofs.Tables.{tableOf-at}
-use Rattle.figures.specs.Answers.{filled}
+use Rattle.answers.specs.Answers.{filled}
 use Rattle.figures.specs.Steps.{Ended, holding}
 
 -- a number is the entry of the time that it stands for

@@ -1,10 +1,6 @@
 pub mod OneMore
 pub mod Filling
-pub mod Whole
 pub mod Entries
 pub mod Bridge
 pub mod Starting
 pub mod Answering
-pub mod Accesses
-pub mod Promises
-pub mod EitherWay

@@ -24,8 +24,8 @@ use Rattle.times.specs.Arrays.{tableOf}
 use Rattle.image.specs.declared.Verdict.the-variants.{Accepted}
 use Rattle.tight.specs.Steps.{table}
 use Rattle.exits.specs.Exits.{bitsOf, Within}
-use Rattle.figures.specs.declared.Answer.{Answer}
-use Rattle.figures.specs.Answers.{resultOf, afterJudging, tableFor}
+use Rattle.answers.specs.declared.Answer.{Answer}
+use Rattle.answers.specs.Answers.{resultOf, afterJudging, tableFor}
 
 -- field 2 of the image: n start offsets from a place on, each below the period P
 pub record Listing (s : List ℕ) (place P n : ℕ) : Type 0 where

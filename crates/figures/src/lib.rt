@@ -16,26 +16,15 @@ ghost use Rattle.runs.specs.Figures.{published};
 ghost use Rattle.image.specs.Tasks.{taskOf};
 ghost use Rattle.rows.specs.Fields.{bodyAt};
 ghost use Rattle.image.specs.Walks.{Walkable};
-ghost use Rattle.figures.specs.Promise.{Equal, Demand3, Demand2};
+ghost use Rattle.answers.specs.Promise.{Equal, Demand3, Demand2};
 ghost use Rattle.figures.specs.Steps.{Listing, Answerable, Answered, Started, StartedSet, Ended, Holding, holding};
+use answers::Answer;
+use answers::Totals;
 use image::Outline;
 use image::Refusal;
 use image::Verdict;
 use image::Walk;
 use offsets::Set;
-
-// Both figures and the count of exit offsets.
-pub struct Totals {
-    pub tight: u64,
-    pub published: u64,
-    pub exits: u64,
-}
-
-// The figures, or why there are none and at which place.
-pub enum Answer {
-    Given(Totals),
-    Refused(Refusal, usize),
-}
 
 // Where the start offsets stand: field 2 is behind field 1, wherever that ends.
 fn starts_at(image: &[u8]) -> usize

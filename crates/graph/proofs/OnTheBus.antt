@@ -25,9 +25,9 @@ use Rattle.image.specs.declared.Verdict.the-variants.{Accepted}
 use Rattle.nodes.proofs.Lists.{is-listed}
 use Rattle.image.proofs.Reasons.{when-accepted}
 use Rattle.image.proofs.Sounds.{accepted, starts-kept}
-use Rattle.figures.specs.Answers.{given, answer}
-use Rattle.figures.specs.WholeRuns.{WholeRuns}
-use Rattle.figures.proofs.Promises.{runs, figures-most}
+use Rattle.answers.specs.Answers.{given, answer}
+use Rattle.answers.specs.WholeRuns.{WholeRuns}
+use Rattle.answers.proofs.Promises.{runs, figures-most}
 use Rattle.graph.specs.Graph.{Graph, Permitted, InTime}
 use Rattle.graph.specs.Images.{EveryOffset, Takes, Quoted, Imaged, Ran}
 use Rattle.graph.proofs.Schedules.{some-schedule}

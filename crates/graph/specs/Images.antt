@@ -9,7 +9,7 @@ use Rattle.image.specs.Tasks.{taskOf}
 use Rattle.image.specs.Judged.{judged}
 use Rattle.image.specs.declared.Outline.{Outline}
 use Rattle.image.specs.declared.Verdict.the-variants.{Accepted}
-use Rattle.figures.specs.Answers.{answer as figuresAnswer, given}
+use Rattle.answers.specs.Answers.{answer as figuresAnswer, given}
 use Rattle.graph.specs.Graph.{Graph, AsSoon}
 
 -- "each image must list every offset as a start"

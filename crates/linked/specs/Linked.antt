@@ -14,8 +14,8 @@ use Rattle.image.specs.Tasks.{taskOf}
 use Rattle.image.specs.Judged.{Outcome, accepted, refused as rejected, judged, outcome}
 use Rattle.image.specs.declared.Outline.{Outline}
 use Rattle.image.specs.declared.Verdict.the-variants.{Accepted}
-use Rattle.figures.specs.Answers.{Result, given, refused, answer, tableAfter}
-use Rattle.figures.specs.WholeRuns.{WholeRuns}
+use Rattle.answers.specs.Answers.{Result, given, refused, answer, tableAfter}
+use Rattle.answers.specs.WholeRuns.{WholeRuns}
 use Rattle.edits.specs.Edits.{Change, done, refused as notDone, imageWith, change, imageAfter, previewOf, previewTable}
 use Rattle.edits.specs.Promise.{Editable, Leaves}
 use Rattle.graph.specs.Table.{Result as FinishesResult, finished, refused as refusedTable, answer as finishesAnswer}

@@ -18,13 +18,13 @@
 ghost use mathlib.Core.Path.{_≡_};
 ghost use Prim.Native.Nat.{_≤_};
 ghost use lib.ListN.{length};
-ghost use Rattle.figures.specs.Answers.{resultOf};
+ghost use Rattle.answers.specs.Answers.{resultOf};
 ghost use Rattle.linked.specs.Linked.{judgeCall, told, figuresCall, WholeFigures, editCall, WholeEdit, previewCall, WholePreview, finishesCall, WholeFinishes};
 ghost use Rattle.arbiter.specs.declared.Call.the-variants.{Read, Line, Write, Tick, Reset};
 ghost use Rattle.lent.specs.OnBytes.{arbiterCall, WholeCall};
 use arbiter::Call;
 use edits::Edited;
-use figures::Answer;
+use answers::Answer;
 use image::Verdict;
 use lent::DONE;
 use lent::REFUSED;

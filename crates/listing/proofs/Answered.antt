@@ -6,11 +6,11 @@ use native.Mathlib.Omega.{arith}
 use Prim.Native.Nat.{ℕ, _≤_}
 use Rattle.image.specs.Judged.{numberOf}
 use Rattle.image.specs.declared.Refusal.{Refusal}
-use Rattle.figures.specs.declared.Totals.{Totals}
-use Rattle.figures.specs.declared.Answer.{Answer}
-use Rattle.figures.specs.declared.Answer.the-variants.{Given, Refused}
-use Rattle.figures.specs.Answers.{Result, resultOf}
-use Rattle.figures.specs.Promise.{Equal}
+use Rattle.answers.specs.declared.Totals.{Totals}
+use Rattle.answers.specs.declared.Answer.{Answer}
+use Rattle.answers.specs.declared.Answer.the-variants.{Given, Refused}
+use Rattle.answers.specs.Answers.{Result, resultOf}
+use Rattle.answers.specs.Promise.{Equal}
 use Rattle.text.specs.declared.Written.{Written}
 use Rattle.text.specs.Buffer.{intoBuffer, refusedListed, figuresListed}
 use Rattle.text.proofs.Answers.{figures-listed}

@@ -3,7 +3,7 @@ use mathlib.Core.List.{List}
 use lib.ListN.{replicate}
 use Prim.Native.Nat.{ℕ}
 use Rattle.runs.specs.Figures.{noTime}
-use Rattle.figures.specs.Answers.{Result, given, refused, answer, tableAfter}
+use Rattle.answers.specs.Answers.{Result, given, refused, answer, tableAfter}
 use Rattle.text.specs.Text.{refusedLine, figureLines}
 
 -- the lines of an answer and its table of 256 places: a refusal, or the figures, the count and each place that holds a time

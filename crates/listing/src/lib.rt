@@ -6,7 +6,7 @@
 ghost use mathlib.Core.Path.{_≡_};
 ghost use Rattle.text.specs.Buffer.{intoBuffer};
 ghost use Rattle.listing.specs.Listings.{listingOf};
-use figures::Answer;
+use answers::Answer;
 use text::Written;
 
 pub fn listing(image: &[u8], out: &mut [u8]) -> Written

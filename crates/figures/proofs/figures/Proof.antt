@@ -1,7 +1,8 @@
 -- Judging's refusals are passed on; for an accepted image the answer is `given`'s. Either way equality holds, and both demands follow from it.
 use borrow.Author.Needs.{needs}
 use mathlib.Core.Path.{sym, _∙_}
-use Rattle.figures.proofs.Promises.{answerable, refused-equal, given-equal, demand3, demand2}
+use Rattle.answers.proofs.Promises.{refused-equal, demand3, demand2}
+use Rattle.figures.proofs.Answering.{answerable, given-equal}
 use Rattle.figures.proofs.figures.Statement.{statement}
 use Rattle.figures.proofs.figures.Tie as tie
 

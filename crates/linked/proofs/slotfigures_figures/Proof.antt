@@ -1,7 +1,7 @@
 -- The answer takes what `figures` found, and that is the definition's, with demand 3 besides.
 use borrow.Author.Needs.{needs}
 use native.Mathlib.Omega.{arith}
-use Rattle.figures.specs.Answers.{answer, tableAfter}
+use Rattle.answers.specs.Answers.{answer, tableAfter}
 use Rattle.linked.proofs.Calls.{told-short, told-call, whole-figures}
 use Rattle.linked.proofs.slotfigures_figures.Statement.{statement}
 use Rattle.linked.proofs.slotfigures_figures.Tie as tie

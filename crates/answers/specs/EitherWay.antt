@@ -11,7 +11,7 @@ use Rattle.image.specs.Judged.{judged}
 use Rattle.image.specs.Moved.{moved}
 use Rattle.image.specs.declared.Outline.{Outline}
 use Rattle.image.specs.declared.Verdict.the-variants.{Accepted}
-use Rattle.figures.specs.Answers.{Result, given, refused, answer, tableAfter}
+use Rattle.answers.specs.Answers.{Result, given, refused, answer, tableAfter}
 
 -- the same figures, or the same refusal d bytes further on
 abbrev pub answerMoved : ℕ → Result → Result

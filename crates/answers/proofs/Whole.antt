@@ -18,7 +18,7 @@ use Rattle.runs.proofs.Joins.{row-length}
 use Rattle.runs.proofs.Meanings.{row-at}
 use Rattle.runs.proofs.TimesExact.{longest-some}
 use Rattle.runs.proofs.Whole.{whole-exact, tight-number, run-inside}
-use Rattle.figures.specs.WholeRuns.{Listed, Counted, none as no-numbers, one-more, no-more, EndsAt, WholeRuns}
+use Rattle.answers.specs.WholeRuns.{Listed, Counted, none as no-numbers, one-more, no-more, EndsAt, WholeRuns}
 
 -- a longest time is none only where there is no count
 longest-has : {C : ℕ → Type 0} {v : Time} → Longest C v → (c : ℕ) → C c → (m : ℕ) × (v ≡ some m) × (c ≤ m)

@@ -14,8 +14,8 @@ use Rattle.image.specs.Judged.{numberOf, judged}
 use Rattle.image.specs.declared.Refusal.the-variants.{Table}
 use Rattle.image.specs.declared.Verdict.{Verdict}
 use Rattle.image.specs.declared.Verdict.the-variants.{Accepted, Refused}
-use Rattle.figures.specs.declared.Answer.{Answer}
-use Rattle.figures.specs.declared.Answer.the-variants.{Given, Refused as NotGiven}
+use Rattle.answers.specs.declared.Answer.{Answer}
+use Rattle.answers.specs.declared.Answer.the-variants.{Given, Refused as NotGiven}
 
 -- the answer in the document's terms: "the tight figure, the published figure and the count of exit offsets", or a number and a place
 pub data Result : Type 0 where

@@ -14,12 +14,12 @@ use Rattle.image.specs.Tasks.{taskOf}
 use Rattle.image.specs.Judged.{judged}
 use Rattle.image.specs.declared.Outline.{Outline}
 use Rattle.image.specs.declared.Verdict.the-variants.{Accepted}
-use Rattle.figures.specs.declared.Totals.{Totals}
-use Rattle.figures.specs.declared.Answer.{Answer}
-use Rattle.figures.specs.declared.Answer.the-variants.{Given}
-use Rattle.figures.specs.Answers.{resultOf, answer, tableAfter}
-use Rattle.figures.specs.WholeRuns.{WholeRuns}
-use Rattle.figures.specs.Accesses.{AccessTakes, LeastOwned}
+use Rattle.answers.specs.declared.Totals.{Totals}
+use Rattle.answers.specs.declared.Answer.{Answer}
+use Rattle.answers.specs.declared.Answer.the-variants.{Given}
+use Rattle.answers.specs.Answers.{resultOf, answer, tableAfter}
+use Rattle.answers.specs.WholeRuns.{WholeRuns}
+use Rattle.answers.specs.Accesses.{AccessTakes, LeastOwned}
 
 -- 1, equality: the answer and the table at exit are those of the definitions, for refused inputs too
 pub record Equal (s before : List ℕ) (r : Answer) (after : List ℕ) : Type 0 where

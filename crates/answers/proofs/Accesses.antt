@@ -13,9 +13,9 @@ use Rattle.schedule.specs.Said.{said, Ranged}
 use Rattle.schedule.proofs.Sayings.{slots-most, slots-wait, turns-period, turns-wait, said-lawful, first-tag}
 use Rattle.image.specs.Tasks.{taskOf}
 use Rattle.image.specs.declared.Outline.{Outline}
-use Rattle.figures.specs.declared.Totals.{Totals}
-use Rattle.figures.specs.Accesses.{AccessTakes}
-use Rattle.figures.specs.Promise.{ByAlgorithms}
+use Rattle.answers.specs.declared.Totals.{Totals}
+use Rattle.answers.specs.Accesses.{AccessTakes}
+use Rattle.answers.specs.Promise.{ByAlgorithms}
 
 module _ (t : Task) (law : Lawful (t .bus)) (x : State) (l : x .at < placesOf t .size) where
   turn : Turning (t .bus .period) (placesOf t)

@@ -1,5 +1,5 @@
--- The three parts of the entry's promise: equality, from a refusal by judging and from the answer for an accepted image; both demands, from it alone.
-use mathlib.Core.Path.{_≡_, refl, sym, _∙_}
+-- The three parts of the entry's promise: equality, of a refusal by judging; both demands, from equality alone.
+use mathlib.Core.Path.{_≡_, refl}
 use mathlib.Core.Bool.{Bool, true, false, cond}
 use mathlib.Core.List.{List}
 use lib.ListN.{length}
@@ -13,28 +13,19 @@ use Rattle.runs.specs.Figures.{entryOf, tight, published, exitCount}
 use Rattle.runs.proofs.Whole.{whole-exact}
 use Rattle.image.specs.Tasks.{taskOf}
 use Rattle.image.specs.Judged.{judged}
-use Rattle.image.specs.Promise.{Judging}
 use Rattle.image.specs.declared.Refusal.{Refusal}
 use Rattle.image.specs.declared.Outline.{Outline}
-use Rattle.image.specs.declared.Verdict.{Verdict}
 use Rattle.image.specs.declared.Verdict.the-variants.{Accepted, Refused}
-use Rattle.image.proofs.Promises.{judged-sound}
 use Rattle.image.proofs.Reasons.{when-accepted}
 use Rattle.image.proofs.Sounds.{ranged-kept, accepted}
-use Rattle.figures.specs.declared.Totals.{Totals}
-use Rattle.figures.specs.declared.Answer.{Answer}
-use Rattle.figures.specs.declared.Answer.the-variants.{Given, Refused as NotGiven}
-use Rattle.figures.specs.Answers.{resultOf, given, refused, figuresOf, filled, afterJudging, tableFor}
-use Rattle.figures.specs.WholeRuns.{WholeRuns}
-use Rattle.figures.specs.Promise.{Equal, Demand3, Demand2}
-use Rattle.figures.specs.Steps.{Answerable, Answered}
-use Rattle.figures.proofs.Whole.{whole-runs}
-use Rattle.figures.proofs.Accesses.{by-algorithms}
-
--- what judging has shown is what the figures ask
-pub answerable : (s places : List ℕ) (v : Verdict) (k : Outline) → Judging s v places → v ≡ Accepted k → Answerable s k places
-answerable s places v k j e =
-    record { sound = judged-sound s places v k j e; accepted = accepted s k (sym (j .is) ∙ e) }
+use Rattle.answers.specs.declared.Totals.{Totals}
+use Rattle.answers.specs.declared.Answer.{Answer}
+use Rattle.answers.specs.declared.Answer.the-variants.{Given, Refused as NotGiven}
+use Rattle.answers.specs.Answers.{resultOf, given, refused, figuresOf, filled, afterJudging, tableFor}
+use Rattle.answers.specs.WholeRuns.{WholeRuns}
+use Rattle.answers.specs.Promise.{Equal, Demand3, Demand2}
+use Rattle.answers.proofs.Whole.{whole-runs}
+use Rattle.answers.proofs.Accesses.{by-algorithms}
 
 pub refused-equal : (s before : List ℕ) (r : Refusal) (place : ℕ) → judged s ≡ Refused r place → Equal s before (NotGiven r place) before
 refused-equal s before r place e = record { result = rw e; table = rw e }
@@ -79,9 +70,6 @@ module _ (s before : List ℕ) (k : Outline) (e : judged s ≡ Accepted k) where
       let is = totals tightest most exits after g h .second in
       let below = runs tightest most exits after g h .below-published in
       (omega arith, omega arith)
-
-  pub given-equal : (r : Answer) (after : List ℕ) → Answered s k before r after → Equal s before r after
-  given-equal r after a = record { result = rw e (a .result); table = rw e (a .table) }
 
 -- ---- demands 3 and 2, from the equality alone
 

@@ -29,8 +29,8 @@ use Rattle.image.proofs.EitherWay.{instead, same-said}
 use Rattle.rows.proofs.Kept.{slots-row}
 use Rattle.image.proofs.Reasons.{when-accepted}
 use Rattle.image.proofs.Sounds.{ranged-kept, accepted}
-use Rattle.figures.specs.Answers.{given, refused, figuresOf, afterJudging, answer, tableFor, tableAfter}
-use Rattle.figures.specs.EitherWay.{answerMoved, EitherWay, EqualAnswers}
+use Rattle.answers.specs.Answers.{given, refused, figuresOf, afterJudging, answer, tableFor, tableAfter}
+use Rattle.answers.specs.EitherWay.{answerMoved, EitherWay, EqualAnswers}
 
 module _ (v : Slots) (h : Ranges v) (rest table : List ℕ) where
   abbrev one : List ℕ

@@ -1,0 +1,4 @@
+pub mod Whole
+pub mod Accesses
+pub mod Promises
+pub mod EitherWay

@@ -1,0 +1,5 @@
+pub mod Answers
+pub mod WholeRuns
+pub mod Accesses
+pub mod EitherWay
+pub mod Promise
