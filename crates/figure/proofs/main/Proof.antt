@@ -1,8 +1,8 @@
 -- No more is read than the buffer has, so that part of the buffer may be listed.
 use mathlib.Core.Path.{subst}
 use borrow.Author.Needs.{needs}
-use Rattle.figure.specs.Reading.{Held}
-use Rattle.figure.specs.declared.Input.{Input}
+use Rattle.input.specs.Reading.{Held}
+use Rattle.input.specs.declared.Input.{Input}
 use Rattle.figure.proofs.main.Statement.{statement}
 use Rattle.figure.proofs.main.Tie as tie
 

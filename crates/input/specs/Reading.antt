@@ -5,8 +5,8 @@ use Prim.Native.Nat.{ℕ, zero, suc, _+_}
 use lib.Dec.{ltb}
 use lib.IntN.{ℤ, pos, negsuc}
 use Rattle.io.specs.Counts.{Counts}
-use Rattle.figure.specs.declared.Input.{Input}
-use Rattle.figure.specs.declared.Input.the-variants.{Open, Whole, Failed}
+use Rattle.input.specs.declared.Input.{Input}
+use Rattle.input.specs.declared.Input.the-variants.{Open, Whole, Failed}
 
 -- with so many bytes the buffer is full, or more may come
 abbrev pub filled : ℕ → ℕ → Input

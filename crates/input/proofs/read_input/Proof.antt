@@ -9,9 +9,9 @@ use mir.Syntax.{w64}
 use mir.Val.{toZ, ofZ}
 use mir.ValLaws.{toZ-ofZ}
 use Rattle.libc.specs.Io.{Moved}
-use Rattle.figure.proofs.Reading.{Grows, grows, held}
-use Rattle.figure.proofs.read_input.Statement.{statement}
-use Rattle.figure.proofs.read_input.Tie as tie
+use Rattle.input.proofs.Reading.{Grows, grows, held}
+use Rattle.input.proofs.read_input.Statement.{statement}
+use Rattle.input.proofs.read_input.Tie as tie
 
 abbrev Inv-loop : tie.InvT-loop
 Inv-loop buffer₀ done₀ buffer done = (done ≤ length buffer) × (length buffer ≡ length buffer₀)

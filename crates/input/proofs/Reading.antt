@@ -12,9 +12,9 @@ use lib.Seq.{length-take-le}
 use lib.Signed.{ltZ, nonNeg}
 use borrow.Author.Tests.{ltb-true}
 use Rattle.libc.specs.Io.{Moved}
-use Rattle.figure.specs.Reading.{filled, afterRead, Held}
-use Rattle.figure.specs.declared.Input.{Input}
-use Rattle.figure.specs.declared.Input.the-variants.{Open, Whole, Failed}
+use Rattle.input.specs.Reading.{filled, afterRead, Held}
+use Rattle.input.specs.declared.Input.{Input}
+use Rattle.input.specs.declared.Input.the-variants.{Open, Whole, Failed}
 
 -- an answer that is not below 0
 pub not-negative : (z : ℤ) → ltZ z (pos 0) ≡ false → T (nonNeg z)

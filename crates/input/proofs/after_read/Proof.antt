@@ -11,11 +11,11 @@ use mir.Syntax.{w64}
 use mir.Val.{Fits, toZ, ofZ}
 use mir.ValLaws.{toZ-ofZ}
 use Rattle.libc.specs.Io.{Moved}
-use Rattle.figure.specs.Reading.{filled, afterRead}
-use Rattle.figure.specs.declared.Input.{Input}
-use Rattle.figure.proofs.Reading.{not-negative, moved, failed, ended, came}
-use Rattle.figure.proofs.after_read.Statement.{statement}
-use Rattle.figure.proofs.after_read.Tie as tie
+use Rattle.input.specs.Reading.{filled, afterRead}
+use Rattle.input.specs.declared.Input.{Input}
+use Rattle.input.proofs.Reading.{not-negative, moved, failed, ended, came}
+use Rattle.input.proofs.after_read.Statement.{statement}
+use Rattle.input.proofs.after_read.Tie as tie
 
 -- what the machine reads back
 abbrev read : tie.Start → ℤ
