@@ -33,9 +33,9 @@ Demand3 s before r after = (k : Outline) → judged s ≡ Accepted k → k .peri
 
 -- 3, demand 2: of the figures f of the task that the image's bytes say
 pub record ByAlgorithms (s : List ℕ) (k : Outline) (f : Totals) : Type 0 where
-  -- "the published figure is that of its Algorithms 1 to 3"
+  -- the published figure is that of its Algorithms 1 to 3
   pub figure : f .published ≡ published (taskOf s k)
-  -- "the wait of each access is Equation 7", on the image's own cores, slot and core number: from each state it takes that and its own cycles
+  -- the wait of each access is Equation 7, on the image's own cores, slot and core number: from each state it takes that and its own cycles
   pub wait : byteAt s 0 ≡ 1 → (e : ℕ) (x : State) → 1 ≤ e → e ≤ slotsAt s .slot → x .at < placesOf (taskOf s k) .size
       → AccessTakes (taskOf s k) e x (equation7 (slotsAt s) e (placesOf (taskOf s k) .offset (x .at)) + e)
   -- where a schedule stands in their place (W5, tag 9), the least number of cycles after which the core owns as many, and its own

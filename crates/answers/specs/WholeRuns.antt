@@ -25,16 +25,16 @@ EndsAt t o = (c : ℕ) × Ends t o c
 pub record WholeRuns (t : Task) (tight published exits : ℕ) (table : List ℕ) : Type 0 where
   -- there is a run
   pub some-run : (s : State) × Run t s
-  -- "its final offset is listed and its cycles exceed neither the time listed there nor the tight figure"
+  -- its final offset is listed and its cycles exceed neither the time listed there nor the tight figure
   pub inside : (s : State) → Run t s → s .at < placesOf t .size
   pub listed : (s : State) → Run t s → Listed table (finalOffset t s)
   pub within-time : (s : State) → Run t s → s .count ≤ getD table (finalOffset t s) 0
   pub within-tight : (s : State) → Run t s → s .count ≤ tight
-  -- "Each listed time is reached by a run that ends at its offset."
+  -- Each listed time is reached by a run that ends at its offset.
   pub reached : (o : ℕ) → o < t .bus .period → Listed table o → Ends t o (getD table o 0)
-  -- "The exit count is the number of offsets at which runs end."
+  -- The exit count is the number of offsets at which runs end.
   pub counted : Counted (EndsAt t) (t .bus .period) exits
-  -- "Tight = the largest listed time ≤ published."
+  -- Tight = the largest listed time ≤ published.
   pub largest : (o : ℕ) × (o < t .bus .period) × (Listed table o) × (getD table o 0 ≡ tight)
   pub no-larger : (o : ℕ) → o < t .bus .period → Listed table o → getD table o 0 ≤ tight
   pub below-published : tight ≤ published

@@ -49,7 +49,7 @@ meant s (Sequence c) = RunNode.sequence (words s (c .place) (c .count))
 meant s (Branch c) = RunNode.branch (words s (c .place) (c .count))
 meant s (Loop l) = RunNode.loop (l .least) (l .greatest) (l .body)
 
--- "node fields, numbered from 0": node n has n + 2 fields before it
+-- "node fields (tags 3 to 7), numbered from 0": node n has n + 2 fields before it
 unfoldable pub nodeAt : List ℕ → ℕ → RunNode
 nodeAt s n = meant s (nodeOf s (fieldAt s (n + 2)))
 

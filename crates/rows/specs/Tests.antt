@@ -32,7 +32,7 @@ lengthOk tag n =
     (cond (eqb tag 9) (parityWithin 1 3 65 n)
     (cond (eqb tag 10) (eqb n 5) false))))
 
--- row 2: "start offsets, strictly ascending, each below P": the n bytes from a place on, the first of them at least `least`
+-- row 2: "start offsets, one byte each, strictly ascending, each below P": the n bytes from a place on, the first of them at least `least`
 unfoldable pub startsOk : List ℕ → ℕ → ℕ → ℕ → ℕ → Bool
 startsOk s place zero least period = true
 startsOk s place (suc n) least period =

@@ -17,11 +17,11 @@ use Rattle.bytes.specs.Bytes.{byteAt, wordAt}
 abbrev pub within : ℕ → ℕ → ℕ → Bool
 within low high n = leb low n && leb n high
 
--- row 1: "cores 2 to 16, slot 1 to 128, core number below cores; cores × slot at most 256"
+-- row 1: "cores 2 to 16, slot 1 to 128, core number below cores, one byte each; cores × slot at most 256"
 unfoldable pub busOk : ℕ → ℕ → ℕ → Bool
 busOk cores slot core = within 2 16 cores && (within 1 128 slot && (ltb core cores && leb (cores * slot) 256))
 
--- row 1: "cores", "slot" and "core number, one byte each"; the body of field 1 stands at place 3
+-- row 1: "cores", "slot" and core number, one byte each; the body of field 1 stands at place 3
 abbrev pub slotsAt : List ℕ → Slots
 slotsAt s = record { cores = byteAt s 3; slot = byteAt s 4; core = byteAt s 5 }
 

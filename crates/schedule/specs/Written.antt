@@ -11,7 +11,7 @@ use Rattle.schedule.specs.Said.{slotsAt}
 abbrev pub slotsField : Slots → List ℕ
 slotsField v = 1 ∷ 0 ∷ 3 ∷ v .cores ∷ v .slot ∷ v .core ∷ []
 
--- "pairs of core and slot length, a byte each"
+-- pairs of core and slot length, a byte each
 unfoldable pub pairs : List Turn → List ℕ
 pairs [] = []
 pairs (x ∷ xs) = x .core ∷ x .length ∷ pairs xs
