@@ -18,7 +18,7 @@ use Rattle.schedule.specs.Said.{said}
 use Rattle.nodes.specs.Nodes.{nodeOf, meant, kindMeant, treeAt, childTrees}
 use Rattle.image.specs.Tasks.{taskOf}
 use Rattle.nodes.specs.Fine.{Fine, Standing}
-use Rattle.image.specs.Walks.{Walkable, Named}
+use Rattle.image.specs.Walks.{Walkable, NamedChildren}
 use Rattle.image.specs.declared.Walk.{Walk}
 use Rattle.nodes.specs.declared.Node.the-variants.{Plain, Bus as Block, Once, Sequence, Branch, Loop}
 use Rattle.nodes.specs.declared.Plain.{Plain as PlainNumbers}
@@ -118,14 +118,14 @@ module _ (s : List ℕ) (k : Walk) (places : List ℕ) (w : Walkable s k places)
         (tree-here s n _ here (Once x) e, f .access .some, f .access .order, omega (arith, f .access .most, most-is), f .hit-most, omega arith, f .access .byte)
 
     pub as-sequence : (c : Children) → nodeOf s (getD places n 0) ≡ Sequence c
-        → (treeAt s n ≡ Tree.sequence (childTrees s (c .place) (c .count))) × Named s (c .place) (c .count) n
+        → (treeAt s n ≡ Tree.sequence (childTrees s (c .place) (c .count))) × NamedChildren s (c .place) (c .count) n
     unfolding meant treeBy Fine
     as-sequence c e =
         let f = fine-here s n _ here (Sequence c) e in
         (tree-here s n _ here (Sequence c) e, record { few = f .1; inside = f .2; below = f .3 })
 
     pub as-branch : (c : Children) → nodeOf s (getD places n 0) ≡ Branch c
-        → (treeAt s n ≡ Tree.branch (childTrees s (c .place) (c .count))) × Named s (c .place) (c .count) n
+        → (treeAt s n ≡ Tree.branch (childTrees s (c .place) (c .count))) × NamedChildren s (c .place) (c .count) n
     unfolding meant treeBy Fine
     as-branch c e =
         let f = fine-here s n _ here (Branch c) e in

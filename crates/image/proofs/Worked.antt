@@ -7,19 +7,19 @@ use Rattle.runs.specs.Schedules.{total, owns, any, lastOf, ownsNext, owning}
 use Rattle.runs.specs.Lines.{power}
 use Rattle.runs.specs.Nodes.{trees, treeBy, treeTo, tree, depth, visits, linesTo}
 use Rattle.bytes.specs.Bytes.{wordAt, words}
-use Rattle.schedule.specs.Said.{busOk, turnsAt, turnsOk, named, scheduleOk, said}
+use Rattle.schedule.specs.Said.{busOk, turnsAt, turnsOk, hasPair, scheduleOk, said}
 use Rattle.rows.specs.Tests.{tagOk, nodeLengthOk, lengthOk, startsOk, plainOk, accessOk, blockOk, onceOk, loopOk, nodeValueOk, valueOk, below, childrenOk}
-use Rattle.image.specs.Judged.{fieldOf, scanFrom, scan, wholeOf, judged, refused, outcome}
+use Rattle.image.specs.Judged.{fieldOf, scanFrom, scan, wholeOf, judged, refused, numbered}
 use Rattle.rows.specs.Fields.{fieldAt}
 use Rattle.nodes.specs.Nodes.{nodeFrom, meant, nodeAt}
 use Rattle.image.specs.declared.Verdict.the-variants.{Accepted}
 
 -- "An empty image gives 7 at place 0"; one byte is a cut head.
-empty : outcome [] ≡ refused 7 "unfinished" 0
+empty : numbered [] ≡ refused 7 "unfinished" 0
 unfolding scanFrom scan wholeOf judged
 empty = refl
 
-one : outcome (255 ∷ []) ≡ refused 1 "cut" 0
+one : numbered (255 ∷ []) ≡ refused 1 "cut" 0
 unfolding scanFrom scan wholeOf judged fieldOf
 one = refl
 
@@ -33,16 +33,16 @@ unfolding wordAt words tagOk nodeLengthOk lengthOk busOk startsOk plainOk access
 twice = refl
 
 -- "16 cores × slot 16 is accepted, 16 × 17 gives 5"; the first ends after its bus.
-square : outcome (1 ∷ 0 ∷ 3 ∷ 16 ∷ 16 ∷ 0 ∷ []) ≡ refused 7 "unfinished" 6
+square : numbered (1 ∷ 0 ∷ 3 ∷ 16 ∷ 16 ∷ 0 ∷ []) ≡ refused 7 "unfinished" 6
 unfolding wordAt tagOk nodeLengthOk lengthOk busOk nodeValueOk valueOk childrenOk fieldOf said scanFrom scan wholeOf judged
 square = refl
 
-wide : outcome (1 ∷ 0 ∷ 3 ∷ 16 ∷ 17 ∷ 0 ∷ []) ≡ refused 5 "value" 0
+wide : numbered (1 ∷ 0 ∷ 3 ∷ 16 ∷ 17 ∷ 0 ∷ []) ≡ refused 5 "value" 0
 unfolding wordAt tagOk nodeLengthOk lengthOk busOk nodeValueOk valueOk fieldOf scanFrom scan wholeOf judged
 wide = refl
 
 -- a child equal to the node's own number gives 6
-self : outcome (front ++ 5 ∷ 0 ∷ 2 ∷ 0 ∷ 1 ∷ []) ≡ refused 6 "forward" 17
+self : numbered (front ++ 5 ∷ 0 ∷ 2 ∷ 0 ∷ 1 ∷ []) ≡ refused 6 "forward" 17
 unfolding wordAt tagOk nodeLengthOk lengthOk busOk startsOk plainOk accessOk blockOk onceOk loopOk nodeValueOk valueOk below childrenOk fieldOf said equalSlots scanFrom scan wholeOf judged
 self = refl
 
@@ -54,7 +54,7 @@ nine : judged (loops 9) ≡ Accepted (record { period = 10; starts = 2; lines = 
 unfolding wordAt words tagOk nodeLengthOk lengthOk busOk startsOk plainOk accessOk blockOk onceOk loopOk nodeValueOk valueOk below childrenOk fieldOf said equalSlots fieldAt nodeFrom meant nodeAt trees treeBy treeTo tree depth visits power linesTo scanFrom scan wholeOf judged
 nine = refl
 
-ten : outcome (loops 10) ≡ refused 9 "long" 35
+ten : numbered (loops 10) ≡ refused 9 "long" 35
 unfolding wordAt words tagOk nodeLengthOk lengthOk busOk startsOk plainOk accessOk blockOk onceOk loopOk nodeValueOk valueOk below childrenOk fieldOf said equalSlots fieldAt nodeFrom meant nodeAt trees treeBy treeTo tree depth visits power linesTo scanFrom scan wholeOf judged
 ten = refl
 
@@ -64,7 +64,7 @@ fetched : judged (front ++ 10 ∷ 0 ∷ 5 ∷ 1 ∷ 2 ∷ 3 ∷ 0 ∷ 9 ∷ [])
 unfolding wordAt words tagOk nodeLengthOk lengthOk busOk startsOk plainOk accessOk blockOk onceOk loopOk nodeValueOk valueOk below childrenOk fieldOf said equalSlots fieldAt nodeFrom meant nodeAt trees treeBy treeTo tree depth visits power linesTo scanFrom scan wholeOf judged
 fetched = refl
 
-eighteen : outcome (1 ∷ 0 ∷ 3 ∷ 2 ∷ 128 ∷ 0 ∷ 2 ∷ 0 ∷ 1 ∷ 0 ∷ 10 ∷ 0 ∷ 5 ∷ 2 ∷ 1 ∷ 1 ∷ 0 ∷ 1 ∷ []) ≡ refused 18 "lines" 18
+eighteen : numbered (1 ∷ 0 ∷ 3 ∷ 2 ∷ 128 ∷ 0 ∷ 2 ∷ 0 ∷ 1 ∷ 0 ∷ 10 ∷ 0 ∷ 5 ∷ 2 ∷ 1 ∷ 1 ∷ 0 ∷ 1 ∷ []) ≡ refused 18 "lines" 18
 unfolding wordAt words tagOk nodeLengthOk lengthOk busOk startsOk plainOk accessOk blockOk onceOk loopOk nodeValueOk valueOk below childrenOk fieldOf said equalSlots fieldAt nodeFrom meant nodeAt trees treeBy treeTo tree depth visits power linesTo scanFrom scan wholeOf judged
 eighteen = refl
 
@@ -73,25 +73,25 @@ abbrev round : ℕ → List ℕ
 round e = 9 ∷ 0 ∷ 11 ∷ 0 ∷ 0 ∷ 2 ∷ 1 ∷ 3 ∷ 0 ∷ 2 ∷ 1 ∷ 2 ∷ 0 ∷ 1 ∷ 2 ∷ 0 ∷ 1 ∷ 9 ∷ 4 ∷ 0 ∷ 3 ∷ 2 ∷ e ∷ e ∷ []
 
 three : judged (round 3) ≡ Accepted (record { period = 10; starts = 1; lines = 0; sets = 1; nodes = 1; entry = 0 })
-unfolding wordAt words tagOk nodeLengthOk lengthOk turnsAt turnsOk named scheduleOk total owns any lastOf ownsNext owning startsOk accessOk blockOk nodeValueOk valueOk below childrenOk fieldOf said fieldAt nodeFrom meant nodeAt trees treeBy treeTo tree depth visits power linesTo scanFrom scan wholeOf judged
+unfolding wordAt words tagOk nodeLengthOk lengthOk turnsAt turnsOk hasPair scheduleOk total owns any lastOf ownsNext owning startsOk accessOk blockOk nodeValueOk valueOk below childrenOk fieldOf said fieldAt nodeFrom meant nodeAt trees treeBy treeTo tree depth visits power linesTo scanFrom scan wholeOf judged
 three = refl
 
-four : outcome (round 4) ≡ refused 5 "value" 18
-unfolding wordAt tagOk nodeLengthOk lengthOk turnsAt turnsOk named scheduleOk total owns any lastOf ownsNext owning startsOk accessOk blockOk nodeValueOk valueOk below childrenOk fieldOf said scanFrom scan wholeOf judged
+four : numbered (round 4) ≡ refused 5 "value" 18
+unfolding wordAt tagOk nodeLengthOk lengthOk turnsAt turnsOk hasPair scheduleOk total owns any lastOf ownsNext owning startsOk accessOk blockOk nodeValueOk valueOk below childrenOk fieldOf said scanFrom scan wholeOf judged
 four = refl
 
 -- a sum of 256 is accepted, one of 257 gives 5, and so does an analysed core without a pair; each ends after its bus
 abbrev pair : ℕ → ℕ → List ℕ
 pair core last = 9 ∷ 0 ∷ 7 ∷ core ∷ 0 ∷ 128 ∷ 15 ∷ 127 ∷ 0 ∷ last ∷ []
 
-sum-256 : outcome (pair 15 1) ≡ refused 7 "unfinished" 10
-unfolding wordAt tagOk nodeLengthOk lengthOk turnsAt turnsOk named scheduleOk total nodeValueOk valueOk childrenOk fieldOf scanFrom scan wholeOf judged
+sum-256 : numbered (pair 15 1) ≡ refused 7 "unfinished" 10
+unfolding wordAt tagOk nodeLengthOk lengthOk turnsAt turnsOk hasPair scheduleOk total nodeValueOk valueOk childrenOk fieldOf scanFrom scan wholeOf judged
 sum-256 = refl
 
-sum-257 : outcome (pair 15 2) ≡ refused 5 "value" 0
-unfolding wordAt tagOk nodeLengthOk lengthOk turnsAt turnsOk named scheduleOk total nodeValueOk valueOk fieldOf scanFrom scan wholeOf judged
+sum-257 : numbered (pair 15 2) ≡ refused 5 "value" 0
+unfolding wordAt tagOk nodeLengthOk lengthOk turnsAt turnsOk hasPair scheduleOk total nodeValueOk valueOk fieldOf scanFrom scan wholeOf judged
 sum-257 = refl
 
-no-pair : outcome (pair 1 1) ≡ refused 5 "value" 0
-unfolding wordAt tagOk nodeLengthOk lengthOk turnsAt turnsOk named scheduleOk total nodeValueOk valueOk fieldOf scanFrom scan wholeOf judged
+no-pair : numbered (pair 1 1) ≡ refused 5 "value" 0
+unfolding wordAt tagOk nodeLengthOk lengthOk turnsAt turnsOk hasPair scheduleOk total nodeValueOk valueOk fieldOf scanFrom scan wholeOf judged
 no-pair = refl

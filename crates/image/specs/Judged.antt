@@ -113,13 +113,13 @@ unfoldable pub judged : List ℕ → Verdict
 judged s = onEnd s (scan s)
 
 -- the verdict in the document's terms: the task that the image says, or the number, the word and the place of a refusal
-pub data Outcome : Type 0 where
-  accepted : (task : Task) → Outcome
-  refused : (number : ℕ) (word : String) (place : ℕ) → Outcome
+pub data Numbered : Type 0 where
+  accepted : (task : Task) → Numbered
+  refused : (number : ℕ) (word : String) (place : ℕ) → Numbered
 
-abbrev pub outcomeOf : List ℕ → Verdict → Outcome
-outcomeOf s (Accepted t) = accepted (taskOf s t)
-outcomeOf s (Refused r place) = refused (numberOf r) (wordOf r) place
+abbrev pub numberedOf : List ℕ → Verdict → Numbered
+numberedOf s (Accepted t) = accepted (taskOf s t)
+numberedOf s (Refused r place) = refused (numberOf r) (wordOf r) place
 
-abbrev pub outcome : List ℕ → Outcome
-outcome s = outcomeOf s (judged s)
+abbrev pub numbered : List ℕ → Numbered
+numbered s = numberedOf s (judged s)

@@ -32,7 +32,7 @@ pub record Sound (s : List ℕ) (t : Outline) (places : List ℕ) : Type 0 where
 
 -- the promise of `judge`. Of a refused image the places are left free.
 pub record Judging (s : List ℕ) (verdict : Verdict) (places : List ℕ) : Type 0 where
-  -- the verdict is the definition's (in the document's numbers it is `outcome`)
+  -- the verdict is the definition's (in the document's numbers it is `numbered`)
   pub is : verdict ≡ judged s
   -- refused if and only if the row's condition holds
   pub because : (r : Refusal) (place : ℕ) → verdict ≡ Refused r place → Condition s r place

@@ -19,7 +19,7 @@ pub record Walkable (s : List ℕ) (k : Walk) (places : List ℕ) : Type 0 where
   pub same : SameBus (busMeant (k .bus)) (said s)
 
 -- n child numbers from a place on stand in the image, and are below `own`
-pub record Named (s : List ℕ) (place n own : ℕ) : Type 0 where
+pub record NamedChildren (s : List ℕ) (place n own : ℕ) : Type 0 where
   pub few : n ≤ 16
   pub inside : place + 2 * n ≤ length s
   pub below : NamesBelow s place n own

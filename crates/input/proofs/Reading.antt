@@ -12,7 +12,7 @@ use lib.Seq.{length-take-le}
 use lib.Signed.{ltZ, nonNeg}
 use borrow.Author.Tests.{ltb-true}
 use Rattle.libc.specs.Io.{Moved}
-use Rattle.input.specs.Reading.{filled, afterRead, Held}
+use Rattle.input.specs.Reading.{fullOrOpen, afterRead, Held}
 use Rattle.input.specs.declared.Input.{Input}
 use Rattle.input.specs.declared.Input.the-variants.{Open, Whole, Failed}
 
@@ -37,7 +37,7 @@ module _ (done size : ℕ) where
   ended z e = subst (λ (v : ℤ). Whole done ≡ afterRead done v size) (sym e) refl
 
   -- an answer that is neither
-  pub came : (z : ℤ) → T (nonNeg z) → ¬ (z ≡ pos 0) → filled (done + natAbs z) size ≡ afterRead done z size
+  pub came : (z : ℤ) → T (nonNeg z) → ¬ (z ≡ pos 0) → fullOrOpen (done + natAbs z) size ≡ afterRead done z size
   came (pos zero) h n = absurd (n refl)
   came (pos (suc k)) h n = refl
   came (negsuc k) h n = absurd h

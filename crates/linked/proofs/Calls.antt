@@ -9,7 +9,7 @@ use lib.Seq.{take-all}
 use native.Mathlib.Omega.{arith}
 use Prim.Native.Nat.{ℕ, _≤_, _<_}
 use Rattle.bytes.specs.Bytes.{byteAt}
-use Rattle.image.specs.Judged.{outcomeOf, outcome, numberOf}
+use Rattle.image.specs.Judged.{numberedOf, numbered, numberOf}
 use Rattle.image.specs.Promise.{Judging}
 use Rattle.image.specs.declared.Refusal.{Refusal}
 use Rattle.image.specs.declared.Outline.{Outline}
@@ -36,7 +36,7 @@ use Rattle.graph.specs.Promise.{Equal as FinishesEqual}
 use Rattle.graph.proofs.Tables.{answer-given, finishes-length}
 use Rattle.graph.proofs.Promises.{finishing}
 use Rattle.lent.specs.Answers.{doneInto, refusedInto, beside}
-use Rattle.linked.specs.Linked.{judgedInto, judgeCall, told, toldCall, figuresCall, WholeFigures, changedInto, editCall, WholeEdit, previewCall, WholePreview, finishesInto, finishesCall, WholeFinishes}
+use Rattle.linked.specs.Linked.{judgedInto, judgeCall, figuresInto, toldCall, figuresCall, WholeFigures, changedInto, editCall, WholeEdit, previewCall, WholePreview, finishesInto, finishesCall, WholeFinishes}
 
 -- ---- the first places of a slice
 
@@ -51,37 +51,37 @@ put-third (x ∷ y ∷ z ∷ s) a b c h = refl
 module _ (s lent : List ℕ) where
   pub judge-short : length lent < 2 → judgeCall s lent ≡ (2, lent)
   unfolding judgeCall
-  judge-short h = ap (λ (t : Bool). cond t (2, lent) (judgedInto (outcome s) lent)) (lt-ltb (length lent) 2 h)
+  judge-short h = ap (λ (t : Bool). cond t (2, lent) (judgedInto (numbered s) lent)) (lt-ltb (length lent) 2 h)
 
   module _ (long : 2 ≤ length lent) (v : Verdict) (places : List ℕ) (j : Judging s v places) where
-    judge-is : judgeCall s lent ≡ judgedInto (outcomeOf s v) lent
+    judge-is : judgeCall s lent ≡ judgedInto (numberedOf s v) lent
     unfolding judgeCall
     judge-is =
-        ap (λ (t : Bool). cond t (2, lent) (judgedInto (outcome s) lent)) (le-ltb (length lent) 2 long)
-        ∙ ap (λ (x : Verdict). judgedInto (outcomeOf s x) lent) (sym (j .is))
+        ap (λ (t : Bool). cond t (2, lent) (judgedInto (numbered s) lent)) (le-ltb (length lent) 2 long)
+        ∙ ap (λ (x : Verdict). judgedInto (numberedOf s x) lent) (sym (j .is))
 
     pub judge-accepted : (k : Outline) (after : List ℕ) → v ≡ Accepted k → after ≡ 0 ∷ k .period ∷ drop 2 lent → judgeCall s lent ≡ (0, after)
     judge-accepted k after e h =
-        judge-is ∙ ap (λ (x : Verdict). judgedInto (outcomeOf s x) lent) e
+        judge-is ∙ ap (λ (x : Verdict). judgedInto (numberedOf s x) lent) e
         ∙ ap (λ (n : ℕ). (0, 0 ∷ n ∷ drop 2 lent)) (sym (j .accepted k e .period)) ∙ ap (λ (l : List ℕ). (0, l)) (sym h)
 
     pub judge-refused : (r : Refusal) (place : ℕ) (call : ℕ × List ℕ) → v ≡ Refused r place → refusedInto (numberOf r) place lent ≡ call
         → judgeCall s lent ≡ call
-    judge-refused r place call e h = judge-is ∙ ap (λ (x : Verdict). judgedInto (outcomeOf s x) lent) e ∙ h
+    judge-refused r place call e h = judge-is ∙ ap (λ (x : Verdict). judgedInto (numberedOf s x) lent) e ∙ h
 
 -- ---- an answer with figures
 
 module _ (lent : List ℕ) (a : Answer) where
   pub told-given : 3 ≤ length lent → (f : Totals) (after : List ℕ) → a ≡ Given f → after ≡ f .tight ∷ f .published ∷ drop 2 lent
-      → told (resultOf a) lent ≡ (0, set after 2 (f .exits))
+      → figuresInto (resultOf a) lent ≡ (0, set after 2 (f .exits))
   told-given long f after g h =
-      ap (λ (x : Answer). told (resultOf x) lent) g
+      ap (λ (x : Answer). figuresInto (resultOf x) lent) g
       ∙ ap (λ (l : List ℕ). (0, l)) (sym (put-third lent (f .tight) (f .published) (f .exits) long))
       ∙ ap (λ (l : List ℕ). (0, set l 2 (f .exits))) (sym h)
 
   pub told-refused : (r : Refusal) (place : ℕ) (call : ℕ × List ℕ) → a ≡ NotGiven r place → refusedInto (numberOf r) place lent ≡ call
-      → told (resultOf a) lent ≡ call
-  told-refused r place call g h = ap (λ (x : Answer). told (resultOf x) lent) g ∙ h
+      → figuresInto (resultOf a) lent ≡ call
+  told-refused r place call g h = ap (λ (x : Answer). figuresInto (resultOf x) lent) g ∙ h
 
 module _ (result : Result) (filled table lent : List ℕ) where
   pub told-short : length lent < 3 → toldCall result filled table lent ≡ (2, table, lent)
@@ -89,7 +89,7 @@ module _ (result : Result) (filled table lent : List ℕ) where
   told-short h = rw (lt-ltb (length lent) 3 h)
 
   pub told-call : 3 ≤ length lent → (a : Answer) (after : List ℕ) → resultOf a ≡ result → after ≡ filled → (status : ℕ) (found : List ℕ)
-      → told (resultOf a) lent ≡ (status, found) → toldCall result filled table lent ≡ (status, after, found)
+      → figuresInto (resultOf a) lent ≡ (status, found) → toldCall result filled table lent ≡ (status, after, found)
   unfolding toldCall
   told-call long a after e h status found t =
       rw (le-ltb (length lent) 3 long, h, ← e) (ap (beside filled) t)
@@ -167,10 +167,10 @@ module _ (s : List ℕ) (node lo hi : ℕ) (before lent : List ℕ) where
   no-preview table said is = whole-preview 2 table said is (λ z. absurd (omega arith))
 
   pub told-preview : 3 ≤ length lent → (a : Answer) (status : ℕ) (table said : List ℕ) → Previewing s node lo hi before a table
-      → told (resultOf a) lent ≡ (status, said) → previewCall s node lo hi before lent ≡ (status, table, said) → WholePreview s node lo hi before lent status table said
+      → figuresInto (resultOf a) lent ≡ (status, said) → previewCall s node lo hi before lent ≡ (status, table, said) → WholePreview s node lo hi before lent status table said
   told-preview enough a status table said p e is = whole-preview status table said is (λ z. by-answer a refl (ap (λ (x : ℕ × List ℕ). x .0) e ∙ z))
     where
-      by-answer : (x : Answer) → a ≡ x → told (resultOf x) lent .0 ≡ 0
+      by-answer : (x : Answer) → a ≡ x → figuresInto (resultOf x) lent .0 ≡ 0
           → (d : Editable s node lo hi) × (d .outline .period ≤ length before) × (3 ≤ length lent)
       by-answer (Given t) q z = let w = p .possible t q in (w .0, omega (arith, w .1), omega (arith, enough))
       by-answer (NotGiven r place) q z = absurd (omega arith)

@@ -1,5 +1,5 @@
 -- What a program in C or Rust finds after a call: the status and each lent slice at exit, over the image's bytes, or the task table's numbers,
--- and the slices at entry. Definitions only; the verdict is `outcome` of crate `image`, the figures and the table `answer` and `tableAfter` of
+-- and the slices at entry. Definitions only; the verdict is `numbered` of crate `image`, the figures and the table `answer` and `tableAfter` of
 -- `figures`, the edit `change` and `imageAfter` and the preview `previewOf` and `previewTable` of `edits`, the finishes `answer` of `graph`. The
 -- arbiter's calls are in specs/OnBytes.antt of `lent`.
 --
@@ -11,7 +11,7 @@ use lib.ListN.{length, getD, drop}
 use lib.Dec.{ltb}
 use Prim.Native.Nat.{ℕ, _≤_}
 use Rattle.image.specs.Tasks.{taskOf}
-use Rattle.image.specs.Judged.{Outcome, accepted, refused as rejected, judged, outcome}
+use Rattle.image.specs.Judged.{Numbered, accepted, refused as rejected, judged, numbered}
 use Rattle.image.specs.declared.Outline.{Outline}
 use Rattle.image.specs.declared.Verdict.the-variants.{Accepted}
 use Rattle.answers.specs.Answers.{Result, given, refused, answer, tableAfter}
@@ -24,22 +24,22 @@ use Rattle.graph.specs.Promise.{Finishing}
 use Rattle.lent.specs.Answers.{doneInto, refusedInto, beside}
 
 -- judging: 0 and the period, or the number and the place of a refusal
-abbrev pub judgedInto : Outcome → List ℕ → ℕ × List ℕ
+abbrev pub judgedInto : Numbered → List ℕ → ℕ × List ℕ
 judgedInto (accepted task) lent = (0, 0 ∷ task .bus .period ∷ drop 2 lent)
 judgedInto (rejected number word place) lent = refusedInto number place lent
 
 -- the status and the answer at exit
 unfoldable pub judgeCall : List ℕ → List ℕ → ℕ × List ℕ
-judgeCall image lent = cond (ltb (length lent) 2) (2, lent) (judgedInto (outcome image) lent)
+judgeCall image lent = cond (ltb (length lent) 2) (2, lent) (judgedInto (numbered image) lent)
 
 -- figures: the tight figure, the published one and the exit count, or the number and the place; later places keep their contents
-abbrev pub told : Result → List ℕ → ℕ × List ℕ
-told (given tight published exits) lent = (0, tight ∷ published ∷ exits ∷ drop 3 lent)
-told (refused number place) lent = refusedInto number place lent
+abbrev pub figuresInto : Result → List ℕ → ℕ × List ℕ
+figuresInto (given tight published exits) lent = (0, tight ∷ published ∷ exits ∷ drop 3 lent)
+figuresInto (refused number place) lent = refusedInto number place lent
 
 -- a call for figures, whose table at exit is `filled`
 unfoldable pub toldCall : Result → List ℕ → List ℕ → List ℕ → ℕ × List ℕ × List ℕ
-toldCall result filled table lent = cond (ltb (length lent) 3) (2, table, lent) (beside filled (told result lent))
+toldCall result filled table lent = cond (ltb (length lent) 3) (2, table, lent) (beside filled (figuresInto result lent))
 
 -- the status, the table and the answer at exit
 abbrev pub figuresCall : List ℕ → List ℕ → List ℕ → ℕ × List ℕ × List ℕ

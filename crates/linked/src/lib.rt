@@ -19,7 +19,7 @@ ghost use mathlib.Core.Path.{_≡_};
 ghost use Prim.Native.Nat.{_≤_};
 ghost use lib.ListN.{length};
 ghost use Rattle.answers.specs.Answers.{resultOf};
-ghost use Rattle.linked.specs.Linked.{judgeCall, told, figuresCall, WholeFigures, editCall, WholeEdit, previewCall, WholePreview, finishesCall, WholeFinishes};
+ghost use Rattle.linked.specs.Linked.{judgeCall, figuresInto, figuresCall, WholeFigures, editCall, WholeEdit, previewCall, WholePreview, finishesCall, WholeFinishes};
 ghost use Rattle.arbiter.specs.declared.Call.the-variants.{Read, Line, Write, Tick, Reset};
 ghost use Rattle.lent.specs.OnBytes.{arbiterCall, WholeCall};
 use answers::Answer;
@@ -61,7 +61,7 @@ pub extern "C" fn slotfigures_judge(image: &[u8], answer: &mut [u64]) -> u64
 // The answer takes both figures and the exit count, or a refusal's number and place.
 fn tell(answer: &mut [u64], found: Answer) -> u64
     requires { ⌜ 3 ≤ length (now answer) ⌝ }
-    ensures { λ r. ⌜ told (resultOf found) (now (answer .entry)) ≡ (r, now (answer .exit)) ⌝ }
+    ensures { λ r. ⌜ figuresInto (resultOf found) (now (answer .entry)) ≡ (r, now (answer .exit)) ⌝ }
 {
     match found {
         Answer::Given(f) => {

@@ -5,7 +5,7 @@ use Prim.Native.Nat.{ℕ, _+_, _*_, _≤_, _<_}
 use lib.ListN.{length, getD}
 use Rattle.schedule.specs.Said.{said}
 use Rattle.rows.specs.Fields.{fieldAt, Passed}
-use Rattle.rows.specs.Rules.{Durations, Accesses, Counts, Fetches, NamesBelow}
+use Rattle.rows.specs.Rules.{Durations, Accesses, LoopCounts, Fetches, NamesBelow}
 use Rattle.nodes.specs.declared.Node.{Node}
 use Rattle.nodes.specs.declared.Node.the-variants.{Plain, Bus as Block, Once, Sequence, Branch, Loop}
 use mathlib.Core.Path.{_≡_}
@@ -20,7 +20,7 @@ Fine s own (Block b) = Accesses (b .lowest) (b .highest) (said s .most)
 Fine s own (Once x) = Fetches (x .line) (x .lowest) (x .highest) (x .hit) (said s .most)
 Fine s own (Sequence c) = (1 ≤ c .count) × (c .count ≤ 16) × (c .place + 2 * c .count ≤ length s) × NamesBelow s (c .place) (c .count) own
 Fine s own (Branch c) = (2 ≤ c .count) × (c .count ≤ 8) × (c .place + 2 * c .count ≤ length s) × NamesBelow s (c .place) (c .count) own
-Fine s own (Loop l) = Counts (l .least) (l .greatest) × (l .body < own)
+Fine s own (Loop l) = LoopCounts (l .least) (l .greatest) × (l .body < own)
 
 -- node n's field stands at a place, and it and all before it are good
 pub record Standing (s : List ℕ) (n at : ℕ) : Type 0 where

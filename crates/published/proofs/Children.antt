@@ -15,7 +15,7 @@ use Rattle.offsets.specs.declared.Set.{Set}
 use Rattle.offsets.specs.Sets.{value}
 use Rattle.bytes.specs.Bytes.{wordAt}
 use Rattle.nodes.specs.Nodes.{treeAt, childTrees}
-use Rattle.image.specs.Walks.{Walkable, Named}
+use Rattle.image.specs.Walks.{Walkable, NamedChildren}
 use Rattle.image.specs.declared.Walk.{Walk}
 use Rattle.image.proofs.Walks.{all-more, any-more, walk-lawful, walk-small, valid-at}
 use Rattle.nodes.proofs.Levels.{visits-step}
@@ -33,7 +33,7 @@ outcome-small s k places w node low x r h =
     (cost-bounded (busMeant (k .bus)) (walk-lawful s k places w) (walk-small s k places w) (treeAt s node) (valid-at s k places w node low) (bits (k .bus) x))
 
 module _ (s : List ℕ) (k : Walk) (places : List ℕ) (w : Walkable s k places) (node : ℕ) (low : node ≤ k .outline .entry)
-    (p n : ℕ) (named : Named s p n node) (i : ℕ) (h : i < n) (child : ℕ) (is : child ≡ wordAt s (p + 2 * i)) where
+    (p n : ℕ) (named : NamedChildren s p n node) (i : ℕ) (h : i < n) (child : ℕ) (is : child ≡ wordAt s (p + 2 * i)) where
   -- the visits of the children from j on
   abbrev ahead : ℕ → ℕ
   ahead j = visitsAll (childTrees s (p + 2 * j) (n - j))

@@ -13,7 +13,7 @@ use Rattle.bus.specs.declared.Bus.{Bus}
 use Rattle.bus.specs.Owning.{busMeant}
 use Rattle.offsets.specs.declared.Set.{Set}
 use Rattle.nodes.specs.Nodes.{treeAt, childTrees}
-use Rattle.image.specs.Walks.{Walkable, Named}
+use Rattle.image.specs.Walks.{Walkable, NamedChildren}
 use Rattle.image.specs.declared.Walk.{Walk}
 use Rattle.nodes.specs.declared.Loop.{Loop}
 use Rattle.cycles.specs.Cycles.{Small, Counts, Goes, Skips, Watches}
@@ -48,7 +48,7 @@ pub record Ready (s : List ℕ) (k : Walk) (places : List ℕ) (node : ℕ) (x :
 pub record ReadyAll (s : List ℕ) (k : Walk) (places : List ℕ) (node place count : ℕ) (x : Set) : Type 0 where
   pub walkable : Walkable s k places
   pub low : node ≤ k .outline .entry
-  pub named : Named s place count node
+  pub named : NamedChildren s place count node
   pub few : visitsAll (childTrees s place count) ≤ 100000
   pub within : Within (k .bus .period) x
 

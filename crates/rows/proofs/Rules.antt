@@ -13,7 +13,7 @@ use Rattle.schedule.specs.Said.{within, said}
 use Rattle.schedule.proofs.Sayings.{ranges-kept, kept-ranges, schedule-kept, kept-schedule}
 use Rattle.schedule.proofs.Pairs.{turns-length}
 use Rattle.schedule.proofs.Numbers.{eq-or-ne, both, is-within}
-use Rattle.rows.specs.Rules.{TagRule, LengthRule, Durations, Accesses, Counts, Fetches, ValueRule, ChildRule}
+use Rattle.rows.specs.Rules.{TagRule, LengthRule, Durations, Accesses, LoopCounts, Fetches, ValueRule, ChildRule}
 use Rattle.rows.specs.Fields.{fieldAt, tagAt, lengthAt, bodyAt, UpToLength, GoodField}
 use Rattle.rows.specs.Tests.{parityWithin, tagOk, nodeLengthOk, lengthOk, plainOk, accessOk, blockOk, loopOk, onceOk, nodeValueOk, valueOk, childrenOk}
 use Rattle.rows.proofs.Lists.{names-below, below-names, starts-kept, kept-starts}
@@ -147,12 +147,12 @@ kept-access : (lo hi most : ℕ) → Accesses lo hi most → accessOk lo hi most
 unfolding accessOk
 kept-access lo hi most a = simp (le-leb 1 lo (a .some), le-leb lo hi (a .order), le-leb hi 255 (a .byte), le-leb hi most (a .most))
 
-counts-kept : (least greatest : ℕ) → loopOk least greatest ≡ true → Counts least greatest
+counts-kept : (least greatest : ℕ) → loopOk least greatest ≡ true → LoopCounts least greatest
 unfolding loopOk
 counts-kept least greatest e =
     let p = both (leb least greatest) (leb greatest 10000) e in record { order = leb-true _ _ (p .0); most = leb-true _ _ (p .1) }
 
-kept-counts : (least greatest : ℕ) → Counts least greatest → loopOk least greatest ≡ true
+kept-counts : (least greatest : ℕ) → LoopCounts least greatest → loopOk least greatest ≡ true
 unfolding loopOk
 kept-counts least greatest c = simp (le-leb least greatest (c .order), le-leb greatest 10000 (c .most))
 

@@ -55,7 +55,7 @@ pub record Accesses (lowest highest longest : ℕ) : Type 0 where
   pub byte : highest ≤ 255
 
 -- row 7: "least ≤ greatest ≤ 10,000"
-pub record Counts (least greatest : ℕ) : Type 0 where
+pub record LoopCounts (least greatest : ℕ) : Type 0 where
   pub order : least ≤ greatest
   pub most : greatest ≤ 10000
 
@@ -74,7 +74,7 @@ pub data ValueRule (s : List ℕ) (tag body n : ℕ) : Type 0 where
   -- "kind (1 may access, 2 always accesses)"
   block : tag ≡ 4 → (byteAt s body ≡ 1) ⊎ (byteAt s body ≡ 2) → Accesses (byteAt s (body + 1)) (byteAt s (body + 2)) (said s .most) → ValueRule s tag body n
   children : 5 ≤ tag → tag ≤ 6 → ValueRule s tag body n
-  loop : tag ≡ 7 → Counts (wordAt s body) (wordAt s (body + 2)) → ValueRule s tag body n
+  loop : tag ≡ 7 → LoopCounts (wordAt s body) (wordAt s (body + 2)) → ValueRule s tag body n
   -- W5: pairs "of core (0 to 15) and slot length (1 to 128)", a sum of at most 256, and one of them the analysed core's
   schedule : tag ≡ 9 → Scheduled (scheduleOf s body n) → ValueRule s tag body n
   once : tag ≡ 10 → Fetches (byteAt s body) (byteAt s (body + 1)) (byteAt s (body + 2)) (wordAt s (body + 3)) (said s .most) → ValueRule s tag body n

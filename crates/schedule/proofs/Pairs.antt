@@ -10,7 +10,7 @@ use lib.ListN.{length}
 use borrow.Author.Tests.{le-leb, lt-leb, eq-eqb, ne-eqb}
 use Rattle.runs.specs.Schedules.{Turn, Schedule, total}
 use Rattle.bytes.specs.Bytes.{byteAt}
-use Rattle.schedule.specs.Said.{within, turnsAt, turnsOk, named, scheduleOk}
+use Rattle.schedule.specs.Said.{within, turnsAt, turnsOk, hasPair, scheduleOk}
 
 -- as many as are read
 pub turns-length : (s : List ℕ) (p n : ℕ) → length (turnsAt s p n) ≡ n
@@ -49,7 +49,7 @@ and-false false b = refl
 
 -- whether pairs go on from a sum of n cycles, the core c having been found or not
 unfoldable pub goesOn : ℕ → Bool → ℕ → List Turn → Bool
-goesOn c found n xs = turnsOk xs && (leb (n + total xs) 256 && (found || named c xs))
+goesOn c found n xs = turnsOk xs && (leb (n + total xs) 256 && (found || hasPair c xs))
 
 pub goes-first : (v : Schedule) → goesOn (v .core) false 0 (v .turns) ≡ scheduleOk v
 unfolding goesOn scheduleOk
@@ -65,7 +65,7 @@ or-true false = refl
 
 module _ (c : ℕ) (found : Bool) (n : ℕ) where
   pub goes-last : n ≤ 256 → goesOn c found n [] ≡ found
-  unfolding goesOn turnsOk total named
+  unfolding goesOn turnsOk total hasPair
   goes-last h = rw (add-zero n, le-leb n 256 h) (or-false found)
 
   module _ (x : Turn) (xs : List Turn) where
@@ -79,16 +79,16 @@ module _ (c : ℕ) (found : Bool) (n : ℕ) where
 
     pub sum-above : 256 < n + x .length → goesOn c found n (x ∷ xs) ≡ false
     unfolding goesOn total
-    sum-above h = rw (lt-leb (n + (x .length + total xs)) 256 (omega arith)) (and-false (turnsOk (x ∷ xs)) (found || named c (x ∷ xs)))
+    sum-above h = rw (lt-leb (n + (x .length + total xs)) 256 (omega arith)) (and-false (turnsOk (x ∷ xs)) (found || hasPair c (x ∷ xs)))
 
     sums : n + (x .length + total xs) ≡ n + x .length + total xs
     sums = omega arith
 
     -- a good pair of the core, and of another
     pub goes-found : x .core ≤ 15 → within 1 128 (x .length) ≡ true → x .core ≡ c → goesOn c found n (x ∷ xs) ≡ goesOn c true (n + x .length) xs
-    unfolding goesOn turnsOk total named
+    unfolding goesOn turnsOk total hasPair
     goes-found h k e = rw (le-leb (x .core) 15 h, k, sums, eq-eqb (x .core) c e, or-true found)
 
     pub goes-other : x .core ≤ 15 → within 1 128 (x .length) ≡ true → ¬ (x .core ≡ c) → goesOn c found n (x ∷ xs) ≡ goesOn c found (n + x .length) xs
-    unfolding goesOn turnsOk total named
+    unfolding goesOn turnsOk total hasPair
     goes-other h k e = rw (le-leb (x .core) 15 h, k, sums, ne-eqb (x .core) c e)

@@ -20,7 +20,7 @@ use Rattle.bus.specs.Owning.{busMeant, Slotted}
 use Rattle.bus.proofs.EqualSlots.{slotted-bus}
 use Rattle.bus.proofs.Ranges.{slots-sound}
 use Rattle.bytes.specs.Bytes.{byteAt}
-use Rattle.schedule.specs.Said.{within, busOk, slotsAt, scheduleAt, turnsOk, named, scheduleOk, said, Turns, Named, Scheduled, Ranged, slots, turns}
+use Rattle.schedule.specs.Said.{within, busOk, slotsAt, scheduleAt, turnsOk, hasPair, scheduleOk, said, Turns, HasPair, Scheduled, Ranged, slots, turns}
 use Rattle.schedule.proofs.Numbers.{eq-or-ne, both, is-within}
 
 -- ---- by the tag
@@ -106,16 +106,16 @@ turns-kept (x ∷ xs) e =
     let w = is-within 1 128 (x .length) (q .0) in
     (leb-true _ _ (p .0), w .0, w .1, turns-kept xs (q .1))
 
-named-kept : (c : ℕ) (xs : List Turn) → named c xs ≡ true → Named c xs
-unfolding named Named
+named-kept : (c : ℕ) (xs : List Turn) → hasPair c xs ≡ true → HasPair c xs
+unfolding hasPair HasPair
 named-kept c [] e = absurd (let z : _≡_ {A = ℕ} 0 1 = cc in omega arith)
 named-kept c (x ∷ xs) e = ⊎-elim (λ q. inl q) (λ q. inr (named-kept c xs (rw (ne-eqb (x .core) c q) at e))) (eq-or-ne (x .core) c)
 
 pub schedule-kept : (v : Schedule) → length (v .turns) ≤ 32 → scheduleOk v ≡ true → Scheduled v
 unfolding scheduleOk
 schedule-kept v few e =
-    let p = both (turnsOk (v .turns)) (leb (total (v .turns)) 256 && named (v .core) (v .turns)) e in
-    let q = both (leb (total (v .turns)) 256) (named (v .core) (v .turns)) (p .1) in
+    let p = both (turnsOk (v .turns)) (leb (total (v .turns)) 256 && hasPair (v .core) (v .turns)) e in
+    let q = both (leb (total (v .turns)) 256) (hasPair (v .core) (v .turns)) (p .1) in
     record { turns = turns-kept (v .turns) (p .0); few = few; period-most = leb-true _ _ (q .0); named = named-kept (v .core) (v .turns) (q .1) }
 
 -- and the tests, from the rules
@@ -124,11 +124,11 @@ unfolding turnsOk Turns
 kept-turns [] t = refl
 kept-turns (x ∷ xs) t = simp (le-leb (x .core) 15 (t .0), le-leb 1 (x .length) (t .1), le-leb (x .length) 128 (t .2), kept-turns xs (t .3))
 
-kept-named : (c : ℕ) (xs : List Turn) → Named c xs → named c xs ≡ true
-unfolding named Named
+kept-named : (c : ℕ) (xs : List Turn) → HasPair c xs → hasPair c xs ≡ true
+unfolding hasPair HasPair
 kept-named c [] n = absurd n
 kept-named c (x ∷ xs) (inl e) = simp (eq-eqb (x .core) c e)
-kept-named c (x ∷ xs) (inr n) = or-true (eqb (x .core) c) (named c xs) (kept-named c xs n)
+kept-named c (x ∷ xs) (inr n) = or-true (eqb (x .core) c) (hasPair c xs) (kept-named c xs n)
   where
     or-true : (a b : Bool) → b ≡ true → (a || b) ≡ true
     or-true true b e = refl
@@ -141,8 +141,8 @@ kept-schedule v h = simp (kept-turns (v .turns) (h .turns), le-leb (total (v .tu
 -- ---- an owned offset
 
 -- where a core that has a pair owns an offset
-pub named-owns : (c : ℕ) (xs : List Turn) → Turns xs → Named c xs → (o : ℕ) × (o < total xs) × (owns c xs o ≡ true)
-unfolding Turns Named total owns
+pub named-owns : (c : ℕ) (xs : List Turn) → Turns xs → HasPair c xs → (o : ℕ) × (o < total xs) × (owns c xs o ≡ true)
+unfolding Turns HasPair total owns
 named-owns c [] t n = absurd n
 named-owns c (x ∷ xs) t (inl e) = (0, omega (arith, t .1), rw (lt-ltb 0 (x .length) (t .1)) (eq-eqb (x .core) c e))
 named-owns c (x ∷ xs) t (inr n) =

@@ -17,7 +17,7 @@ use Rattle.bus.specs.declared.Slots.{Slots}
 use Rattle.bus.proofs.Ranges.{slots-sound}
 use Rattle.bytes.specs.Bytes.{byteAt, wordAt}
 use Rattle.bytes.proofs.Agreeing.{Agree, agree-part, agree-here, agree-word, behind}
-use Rattle.schedule.specs.Said.{turnsAt, scheduleAt, turnsOk, named, scheduleOk, said}
+use Rattle.schedule.specs.Said.{turnsAt, scheduleAt, turnsOk, hasPair, scheduleOk, said}
 use Rattle.schedule.specs.Written.{pairs, turnsField}
 use Rattle.schedule.proofs.Numbers.{eq-or-ne}
 
@@ -83,8 +83,8 @@ even-turns k zero len few some most = refl
 even-turns k (suc n) len few some most =
     simp (le-leb k 15 (omega arith), le-leb 1 len some, le-leb len 128 most, even-turns (suc k) n len (omega arith) some most)
 
-even-named : (c k n len : ℕ) → k ≤ c → c < k + n → named c (turnsFrom k n len) ≡ true
-unfolding named turnsFrom
+even-named : (c k n len : ℕ) → k ≤ c → c < k + n → hasPair c (turnsFrom k n len) ≡ true
+unfolding hasPair turnsFrom
 even-named c k zero len lo hi = absurd (omega arith)
 even-named c k (suc n) len lo hi =
     ⊎-elim (λ e. rw (eq-eqb k c e)) (λ d. rw (ne-eqb k c d) (even-named c (suc k) n len (omega (arith, d)) (omega arith))) (eq-or-ne k c)

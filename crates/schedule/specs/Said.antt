@@ -43,13 +43,13 @@ turnsOk [] = true
 turnsOk (x ∷ xs) = leb (x .core) 15 && (within 1 128 (x .length) && turnsOk xs)
 
 -- "the analysed core has at least one pair"
-unfoldable pub named : ℕ → List Turn → Bool
-named c [] = false
-named c (x ∷ xs) = eqb (x .core) c || named c xs
+unfoldable pub hasPair : ℕ → List Turn → Bool
+hasPair c [] = false
+hasPair c (x ∷ xs) = eqb (x .core) c || hasPair c xs
 
 -- row 9; "The period is the sum, at most 256"
 unfoldable pub scheduleOk : Schedule → Bool
-scheduleOk v = turnsOk (v .turns) && (leb (total (v .turns)) 256 && named (v .core) (v .turns))
+scheduleOk v = turnsOk (v .turns) && (leb (total (v .turns)) 256 && hasPair (v .core) (v .turns))
 
 -- the bus that field 1 says: "A field with tag 9 may stand first in place of tag 1"
 unfoldable pub said : List ℕ → Bus
@@ -61,15 +61,15 @@ unfoldable pub Turns : List Turn → Type 0
 Turns [] = Unit {0}
 Turns (x ∷ xs) = (x .core ≤ 15) × (1 ≤ x .length) × (x .length ≤ 128) × Turns xs
 
-unfoldable pub Named : ℕ → List Turn → Type 0
-Named c [] = ⊥
-Named c (x ∷ xs) = (x .core ≡ c) ⊎ Named c xs
+unfoldable pub HasPair : ℕ → List Turn → Type 0
+HasPair c [] = ⊥
+HasPair c (x ∷ xs) = (x .core ≡ c) ⊎ HasPair c xs
 
 pub record Scheduled (v : Schedule) : Type 0 where
   pub turns : Turns (v .turns)
   pub few : length (v .turns) ≤ 32
   pub period-most : total (v .turns) ≤ 256
-  pub named : Named (v .core) (v .turns)
+  pub named : HasPair (v .core) (v .turns)
 
 -- the numbers of field 1 are in the ranges of its row
 pub data Ranged (s : List ℕ) : Type 0 where

@@ -10,7 +10,7 @@ use Rattle.runs.specs.Figures.{Time, longer, later}
 use Rattle.runs.proofs.Joins.{longer-joins}
 use Rattle.bytes.specs.Bytes.{wordAt}
 use Rattle.nodes.specs.Nodes.{treeAt, childTrees}
-use Rattle.image.specs.Walks.{Walkable, Named}
+use Rattle.image.specs.Walks.{Walkable, NamedChildren}
 use Rattle.image.proofs.Walks.{all-more, any-more, valid-at}
 use Rattle.nodes.proofs.Levels.{visits-step}
 use Rattle.image.specs.declared.Walk.{Walk}
@@ -20,7 +20,7 @@ use Rattle.iterations.proofs.Exits.{joined-at}
 use Rattle.tight.proofs.Rooms.{room-less, room-after}
 
 module _ (s : List ℕ) (k : Walk) (places : List ℕ) (w : Walkable s k places) (node : ℕ) (low : node ≤ k .outline .entry)
-    (p n : ℕ) (named : Named s p n node) (i : ℕ) (h : i < n) (child : ℕ) (is : child ≡ wordAt s (p + 2 * i)) where
+    (p n : ℕ) (named : NamedChildren s p n node) (i : ℕ) (h : i < n) (child : ℕ) (is : child ≡ wordAt s (p + 2 * i)) where
   -- the visits of the children from i on
   abbrev ahead : ℕ → ℕ
   ahead j = 65535 * visitsAll (childTrees s (p + 2 * j) (n - j))

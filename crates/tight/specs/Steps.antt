@@ -12,7 +12,7 @@ use Rattle.runs.specs.Figures.{Time, longer, later, times}
 use Rattle.runs.specs.Parts.{Unrolled, shifted}
 use Rattle.bus.specs.Owning.{busMeant, Fit}
 use Rattle.nodes.specs.Nodes.{treeAt, childTrees}
-use Rattle.image.specs.Walks.{Walkable, Named}
+use Rattle.image.specs.Walks.{Walkable, NamedChildren}
 use Rattle.image.specs.declared.Walk.{Walk}
 use Rattle.nodes.specs.declared.Loop.{Loop}
 use Rattle.times.specs.Arrays.{tableOf, Fits}
@@ -89,7 +89,7 @@ pub record Ready (s : List ℕ) (k : Walk) (places : List ℕ) (node : ℕ) (t :
 pub record ReadyAll (s : List ℕ) (k : Walk) (places : List ℕ) (node place count : ℕ) (t : List ℕ) : Type 0 where
   pub walkable : Walkable s k places
   pub low : node ≤ k .outline .entry
-  pub named : Named s place count node
+  pub named : NamedChildren s place count node
   pub size : sizeOf k ≤ length t
   pub room : Roomy k (65535 * visitsAll (childTrees s place count)) (table k t)
 

@@ -11,7 +11,7 @@ use mir.Syntax.{w64}
 use mir.Val.{Fits, toZ, ofZ}
 use mir.ValLaws.{toZ-ofZ}
 use Rattle.libc.specs.Io.{Moved}
-use Rattle.input.specs.Reading.{filled, afterRead}
+use Rattle.input.specs.Reading.{fullOrOpen, afterRead}
 use Rattle.input.specs.declared.Input.{Input}
 use Rattle.input.proofs.Reading.{not-negative, moved, failed, ended, came}
 use Rattle.input.proofs.after_read.Statement.{statement}
@@ -30,7 +30,7 @@ after s z = afterRead (s .args .done) z (s .args .size)
 
 -- what bytes come to, where the answer is neither below 0 nor 0
 abbrev there : tie.Start → Input
-there s = filled (s .args .done + natAbs (read s)) (s .args .size)
+there s = fullOrOpen (s .args .done + natAbs (read s)) (s .args .size)
 
 bytes : (c : tie.Else2) → there (c .before .before) ≡ after (c .before .before) (c .before .before .args .got)
 bytes c =
