@@ -1,5 +1,5 @@
--- What a possible edit leaves, editing back included; and the figures after an edit are those that the preview gave before it.
-use mathlib.Core.Path.{_≡_, sym, _∙_, ap}
+-- What a possible edit leaves, editing back included.
+use mathlib.Core.Path.{_≡_, sym, _∙_}
 use mathlib.Core.Logic.{⊎-elim}
 use mathlib.Core.Bool.{true}
 use mathlib.Core.List.{List}
@@ -9,15 +9,9 @@ use Rattle.runs.specs.Nodes.{Node}
 use Rattle.bytes.specs.Bytes.{byteAt, wordAt}
 use Rattle.rows.specs.Tests.{plainOk, nodeValueOk, valueOk}
 use Rattle.nodes.specs.Nodes.{nodeAt}
-use Rattle.image.specs.Judged.{numberOf}
-use Rattle.image.specs.declared.Refusal.{Refusal}
 use Rattle.rows.proofs.Rules.{durations-kept, tested}
-use Rattle.answers.specs.declared.Answer.{Answer}
-use Rattle.answers.specs.Answers.{refused, resultOf, answer, tableAfter}
-use Rattle.answers.specs.Promise.{Equal}
-use Rattle.edits.specs.declared.Edited.the-variants.{Done, Refused as NotDone}
-use Rattle.edits.specs.Edits.{Change, done, placeOf, imageWith, change, imageFor, imageAfter, previewOf, previewTable}
-use Rattle.edits.specs.Promise.{Editable, Editing, Restores, Leaves, Previewing}
+use Rattle.edits.specs.Edits.{done, placeOf, imageWith, change, imageAfter}
+use Rattle.edits.specs.Promise.{Editable, Restores, Leaves}
 use Rattle.edits.proofs.Plain.{node-was, tag-of}
 use Rattle.edits.proofs.Written.{written-before, written-behind, written-back}
 use Rattle.edits.proofs.Standing.{inside, long, place-same, starts-same, node-other, node-same, weight-same, still-accepting, still-accepted}
@@ -30,11 +24,6 @@ module _ (s : List ℕ) (node lo hi : ℕ) (d : Editable s node lo hi) where
 
   pub edit-is : imageAfter s node lo hi ≡ imageWith s node lo hi
   edit-is = rw (found-when s node lo hi d)
-
-  -- "what the edit on a copy and a fresh calculation would give", answer and table
-  pub preview-is : (table : List ℕ) → (previewOf s node lo hi table ≡ answer (imageWith s node lo hi) table)
-      × (previewTable s node lo hi table ≡ tableAfter (imageWith s node lo hi) table)
-  preview-is table = let f = found-when s node lo hi d in (rw f, rw f)
 
 -- of a list of bytes
 module _ (s : List ℕ) (node lo hi : ℕ) (d : Editable s node lo hi) (small : (i : ℕ) → byteAt s i < 256) where
@@ -84,20 +73,3 @@ module _ (s : List ℕ) (node lo hi : ℕ) (d : Editable s node lo hi) (small : 
     visited = λ n l. sym (weight-same s node lo hi d n (omega (arith, l, d .accepting .last)) .long);
     back = undone;
   }
-
--- calls one after another: `edit`, `figures` of what it left, and `preview`
-module _ (s : List ℕ) (node lo hi : ℕ) (before : List ℕ) where
-  pub edit-then-figures : (after table table' : List ℕ) (r r' : Answer) → Editing s node lo hi Done after → Equal after before r table
-      → Previewing s node lo hi before r' table' → (resultOf r' ≡ resultOf r) × (table' ≡ table)
-  edit-then-figures after table table' r r' e g p =
-      let c : change s node lo hi ≡ done = sym (e .result) in
-      let i : after ≡ imageWith s node lo hi = e .image ∙ ap (imageFor s node lo hi) c in (
-        p .result ∙ rw (c, ← i) (sym (g .result)),
-        p .table ∙ rw (c, ← i) (sym (g .table)),
-      )
-
-  pub edit-refused-too : (after table' : List ℕ) (x : Refusal) (place : ℕ) (r' : Answer) → Editing s node lo hi (NotDone x place) after
-      → Previewing s node lo hi before r' table' → (resultOf r' ≡ refused (numberOf x) place) × (table' ≡ before) × (after ≡ s)
-  edit-refused-too after table' x place r' e p =
-      let c : change s node lo hi ≡ Change.refused (numberOf x) place = sym (e .result) in
-      (p .result ∙ rw c, p .table ∙ rw c, e .image ∙ ap (imageFor s node lo hi) c)

@@ -1,27 +1,22 @@
 -- Worked edits of "Branch of plain 3 and plain 7 from {9}" (document 01), by computation from the definitions.
 use mathlib.Core.Path.{_≡_, refl}
 use mathlib.Core.List.{List, [], _∷_}
-use lib.ListN.{replicate}
 use Prim.Native.Nat.{ℕ}
-use Rattle.runs.specs.Slots.{equalSlots, equation7}
+use Rattle.runs.specs.Slots.{equalSlots}
 use Rattle.runs.specs.Lines.{power}
-use Rattle.runs.specs.Clock.{withLines}
 use Rattle.runs.specs.Nodes.{trees, treeBy, treeTo, tree, depth, visits, linesTo}
-use Rattle.runs.specs.Carried.{carried}
-use Rattle.runs.specs.Figures.{noTime, startTimes, startSet, longer, later, longestOf, atOffsets, cost, entryOf, held, sum}
-use Rattle.bytes.specs.Bytes.{wordAt, words, bytes}
+use Rattle.bytes.specs.Bytes.{wordAt, words}
 use Rattle.schedule.specs.Said.{busOk, said}
 use Rattle.rows.specs.Tests.{tagOk, nodeLengthOk, lengthOk, startsOk, plainOk, accessOk, blockOk, loopOk, nodeValueOk, valueOk, below, childrenOk}
 use Rattle.image.specs.Judged.{fieldOf, scanFrom, scan, wholeOf, judged}
 use Rattle.rows.specs.Fields.{fieldAt}
 use Rattle.nodes.specs.Nodes.{nodeFrom, meant, nodeAt}
-use Rattle.answers.specs.Answers.{given, refused}
-use Rattle.edits.specs.Edits.{Change, done, withDurations, found, change, imageAfter, previewOf, previewTable}
+use Rattle.edits.specs.Edits.{Change, done, withDurations, found, change, imageAfter}
 use Rattle.edits.specs.Promise.{Editable}
 use Rattle.edits.proofs.Finds.{when-found}
 
 -- the arms stand at 10 and 17, the branch at 24; the image has 31 bytes
-abbrev arms : ℕ → ℕ → List ℕ
+abbrev pub arms : ℕ → ℕ → List ℕ
 arms first second = 1 ∷ 0 ∷ 3 ∷ 2 ∷ 5 ∷ 0 ∷ 2 ∷ 0 ∷ 1 ∷ 9 ∷ 3 ∷ 0 ∷ 4 ∷ 0 ∷ first ∷ 0 ∷ first ∷ 3 ∷ 0 ∷ 4 ∷ 0 ∷ second ∷ 0 ∷ second ∷ 6 ∷ 0 ∷ 4 ∷ 0 ∷ 0 ∷ 0 ∷ 1 ∷ []
 
 record Worked : Type 0 where
@@ -38,15 +33,9 @@ record Worked : Type 0 where
   most : change (arms 3 7) 0 65535 65535 ≡ done
   above : change (arms 3 7) 0 65536 65536 ≡ Change.refused 5 10
   untouched : imageAfter (arms 3 7) 1 8 7 ≡ arms 3 7
-  preview : previewOf (arms 3 7) 1 8 8 (replicate 10 0) ≡ given 8 8 2
-  table : previewTable (arms 3 7) 1 8 8 (replicate 11 0)
-      ≡ noTime ∷ noTime ∷ 3 ∷ noTime ∷ noTime ∷ noTime ∷ noTime ∷ 8 ∷ noTime ∷ noTime ∷ 0 ∷ []
-  short-table : previewOf (arms 3 7) 1 8 8 (replicate 9 0) ≡ refused 10 31
-  value-first : previewOf (arms 3 7) 1 8 7 (replicate 9 0) ≡ refused 5 17
-  kept : previewTable (arms 3 7) 1 8 7 (replicate 9 0) ≡ replicate 9 0
 
 worked : Worked
-unfolding wordAt words bytes tagOk nodeLengthOk lengthOk busOk said startsOk plainOk accessOk blockOk loopOk nodeValueOk valueOk below childrenOk fieldOf fieldAt nodeFrom meant nodeAt trees treeBy treeTo tree depth visits power linesTo scanFrom scan wholeOf judged equalSlots equation7 withLines carried startTimes startSet longer later longestOf atOffsets cost entryOf held sum withDurations found
+unfolding wordAt words tagOk nodeLengthOk lengthOk busOk said startsOk plainOk accessOk blockOk loopOk nodeValueOk valueOk below childrenOk fieldOf fieldAt nodeFrom meant nodeAt trees treeBy treeTo tree depth visits power linesTo scanFrom scan wholeOf judged equalSlots withDurations found
 worked = record {
   is-done = refl;
   first-arm = refl;
@@ -61,11 +50,6 @@ worked = record {
   most = refl;
   above = refl;
   untouched = refl;
-  preview = refl;
-  table = refl;
-  short-table = refl;
-  value-first = refl;
-  kept = refl;
 }
 
 -- so there are possible edits

@@ -1,5 +1,5 @@
--- An edit of one plain block's durations and its preview (document 02, "Trying a change before making it"): the answers, the image and
--- the table at exit, over the image's bytes. Definitions only.
+-- An edit of one plain block's durations (document 02, "Trying a change before making it"): the answer and the image at exit, over the image's
+-- bytes. Definitions only.
 use mathlib.Core.Bool.{Bool, cond, _&&_}
 use mathlib.Core.List.{List}
 use lib.ListN.{length, set}
@@ -12,7 +12,6 @@ use Rattle.image.specs.declared.Refusal.the-variants.{Value, Block}
 use Rattle.image.specs.declared.Outline.{Outline}
 use Rattle.image.specs.declared.Verdict.{Verdict}
 use Rattle.image.specs.declared.Verdict.the-variants.{Accepted, Refused}
-use Rattle.answers.specs.Answers.{Result, answer, tableAfter}
 use Rattle.edits.specs.declared.Found.{Found}
 use Rattle.edits.specs.declared.Found.the-variants.{At, Refused as NotFound}
 use Rattle.edits.specs.declared.Edited.{Edited}
@@ -77,23 +76,3 @@ imageFor s node lowest highest (refused number place) = s
 -- the image that a call leaves
 abbrev pub imageAfter : List ℕ → ℕ → ℕ → ℕ → List ℕ
 imageAfter s node lowest highest = imageFor s node lowest highest (change s node lowest highest)
-
--- ---- the preview: "what the edit on a copy and a fresh calculation would give". The calculation judges 10, so "10 is judged last".
-
--- the answer of the calculation on the copy, or the edit's refusal
-abbrev pub previewFor : List ℕ → List ℕ → Change → Result
-previewFor copy table done = answer copy table
-previewFor copy table (refused number place) = Result.refused number place
-
--- the answer for any bytes, numbers and table
-abbrev pub previewOf : List ℕ → ℕ → ℕ → ℕ → List ℕ → Result
-previewOf s node lowest highest table = previewFor (imageAfter s node lowest highest) table (change s node lowest highest)
-
--- the table at exit: that of the calculation, and where there is none it keeps its contents
-abbrev pub previewTableFor : List ℕ → List ℕ → Change → List ℕ
-previewTableFor copy table done = tableAfter copy table
-previewTableFor copy table (refused number place) = table
-
--- the table that a call leaves
-abbrev pub previewTable : List ℕ → ℕ → ℕ → ℕ → List ℕ → List ℕ
-previewTable s node lowest highest table = previewTableFor (imageAfter s node lowest highest) table (change s node lowest highest)

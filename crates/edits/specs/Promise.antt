@@ -1,4 +1,4 @@
--- What `edit` and `preview` promise, over the image s, the numbers, the answer and what is lent at entry and at exit. Definitions only.
+-- What `edit` promises, over the image s, the numbers, the answer and the image at exit. Definitions only.
 use mathlib.Core.Path.{_≡_}
 use mathlib.Core.Logic.{_⊎_}
 use mathlib.Core.List.{List}
@@ -7,21 +7,15 @@ use Prim.Native.Nat.{ℕ, _+_, _≤_, _<_}
 use Rattle.runs.specs.Nodes.{Node, depth, visits}
 use Rattle.bytes.specs.Bytes.{byteAt}
 use Rattle.nodes.specs.Nodes.{nodeAt, treeAt}
-use Rattle.image.specs.Tasks.{startsOf, taskOf}
+use Rattle.image.specs.Tasks.{startsOf}
 use Rattle.image.specs.Conditions.{Condition, Accepting}
 use Rattle.rows.specs.Rules.{Durations}
 use Rattle.image.specs.Judged.{judged}
 use Rattle.image.specs.declared.Refusal.{Refusal}
-use Rattle.image.specs.declared.Refusal.the-variants.{Value, Table, Block}
+use Rattle.image.specs.declared.Refusal.the-variants.{Value, Block}
 use Rattle.image.specs.declared.Outline.{Outline}
 use Rattle.image.specs.declared.Verdict.the-variants.{Accepted}
-use Rattle.answers.specs.declared.Totals.{Totals}
-use Rattle.answers.specs.declared.Answer.{Answer}
-use Rattle.answers.specs.declared.Answer.the-variants.{Given, Refused as NotGiven}
-use Rattle.answers.specs.Answers.{resultOf}
-use Rattle.answers.specs.WholeRuns.{WholeRuns}
-use Rattle.answers.specs.Promise.{ByAlgorithms}
-use Rattle.edits.specs.Edits.{placeOf, imageWith, changeOf, change, imageAfter, previewOf, previewTable}
+use Rattle.edits.specs.Edits.{placeOf, changeOf, change, imageAfter}
 use Rattle.edits.specs.declared.Edited.{Edited}
 use Rattle.edits.specs.declared.Edited.the-variants.{Done, Refused as NotDone}
 
@@ -48,12 +42,6 @@ pub data EditCondition (s : List ℕ) (node lowest highest : ℕ) : Refusal → 
   -- 5: "durations out of range get 5 at that block's field"
   out-of-range : (k : Outline) → Accepting s k → PlainBlock s k node → (Durations lowest highest → ⊥)
       → EditCondition s node lowest highest Value (placeOf s node)
-
--- and a preview: "10 is judged last"
-pub data PreviewCondition (s : List ℕ) (node lowest highest : ℕ) (table : List ℕ) : Refusal → ℕ → Type 0 where
-  no-edit : (r : Refusal) (place : ℕ) → EditCondition s node lowest highest r place → PreviewCondition s node lowest highest table r place
-  short-table : (e : Editable s node lowest highest) → length table < e .outline .period
-      → PreviewCondition s node lowest highest table Table (length s)
 
 -- ---- `edit`, over the image at entry and at exit
 
@@ -89,25 +77,3 @@ pub record Leaves (s : List ℕ) (k : Outline) (node lowest highest : ℕ) (afte
 -- an edit that is possible is done
 abbrev pub EditDone : List ℕ → ℕ → ℕ → ℕ → Edited → List ℕ → Type 0
 EditDone s node lowest highest r after = (e : Editable s node lowest highest) → (r ≡ Done) × Leaves s (e .outline) node lowest highest after
-
--- ---- `preview`, over the table at entry and at exit; the image is lent as `&` and stays
-
--- equality, for refused previews too; refused if and only if the condition for it holds, and given only if the edit is possible
-pub record Previewing (s : List ℕ) (node lowest highest : ℕ) (before : List ℕ) (r : Answer) (after : List ℕ) : Type 0 where
-  pub result : resultOf r ≡ previewOf s node lowest highest before
-  pub table : after ≡ previewTable s node lowest highest before
-  pub because : (x : Refusal) (place : ℕ) → r ≡ NotGiven x place → PreviewCondition s node lowest highest before x place
-  pub whenever : (x : Refusal) (place : ℕ) → PreviewCondition s node lowest highest before x place → r ≡ NotGiven x place
-  pub possible : (f : Totals) → r ≡ Given f → (e : Editable s node lowest highest) × (e .outline .period ≤ length before)
-
--- figures are given, and demands 3 and 2 hold of them and of the task k that the image s says
-pub record Foreseen (s : List ℕ) (k : Outline) (r : Answer) (after : List ℕ) : Type 0 where
-  pub totals : Totals
-  pub given : r ≡ Given totals
-  pub demand3 : WholeRuns (taskOf s k) (totals .tight) (totals .published) (totals .exits) after
-  pub demand2 : ByAlgorithms s k totals
-
--- of an edit that is possible, with a place for each offset: figures of the edited image
-abbrev pub PreviewGiven : List ℕ → ℕ → ℕ → ℕ → List ℕ → Answer → List ℕ → Type 0
-PreviewGiven s node lowest highest before r after = (e : Editable s node lowest highest) → e .outline .period ≤ length before
-    → Foreseen (imageWith s node lowest highest) (e .outline) r after

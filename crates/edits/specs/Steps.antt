@@ -1,4 +1,4 @@
--- What the functions between judging and the edit promise each other; no other crate needs it. Definitions only.
+-- What the functions between judging and the edit promise each other, and to the preview in crate previews. Definitions only.
 use mathlib.Core.Path.{_≡_}
 use mathlib.Core.List.{List}
 use lib.ListN.{length}

@@ -7,7 +7,8 @@
 //             (specs/WholeRuns.antt);
 //   demand2   the published figure is that of Algorithms 1 to 3, and each access takes the wait of Equation 7 and its own cycles
 //             (specs/Accesses.antt).
-// specs/Promise.antt has the three parts; what a run, a wait and both methods are is in crates/runs/specs.
+// The three parts and what they speak of are definitions of crate answers; what a run, a wait and both methods are is in crates/runs/specs. specs/Steps.antt
+// is between functions of this crate.
 ghost use mathlib.Core.Path.{_≡_};
 ghost use mathlib.Core.List.{_++_};
 ghost use Prim.Native.Nat.{_≤_};

@@ -24,10 +24,12 @@ use Rattle.edits.specs.declared.Edited.{Edited}
 use Rattle.edits.specs.declared.Found.{Found}
 use Rattle.edits.specs.declared.Found.the-variants.{At, Refused as NotFound}
 use Rattle.edits.specs.Edits.{found, changeFor, changeOf, imageWith}
-use Rattle.edits.specs.Promise.{Editable, Editing, Leaves, Previewing}
+use Rattle.edits.specs.Promise.{Editable, Editing, Leaves}
 use Rattle.edits.proofs.Standing.{still-accepted}
 use Rattle.edits.proofs.Finds.{when-found}
-use Rattle.edits.proofs.Laws.{edit-is, change-is, preview-is, leaves}
+use Rattle.edits.proofs.Laws.{edit-is, change-is, leaves}
+use Rattle.previews.specs.Promise.{Previewing}
+use Rattle.previews.proofs.Laws.{preview-is}
 use Rattle.graph.specs.declared.Verdict.{Verdict as TableVerdict}
 use Rattle.graph.specs.declared.Verdict.the-variants.{Accepted as TableAccepted, Refused as TableRefused}
 use Rattle.graph.specs.declared.Answer.{Answer as FinishesFound}

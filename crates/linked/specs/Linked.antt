@@ -1,7 +1,7 @@
 -- What a program in C or Rust finds after a call: the status and each lent slice at exit, over the image's bytes, or the task table's numbers,
 -- and the slices at entry. Definitions only; the verdict is `numbered` of crate `image`, the figures and the table `answer` and `tableAfter` of
--- `figures`, the edit `change` and `imageAfter` and the preview `previewOf` and `previewTable` of `edits`, the finishes `answer` of `graph`. The
--- arbiter's calls are in specs/OnBytes.antt of `lent`.
+-- `answers`, the edit `change` and `imageAfter` of `edits`, the preview `previewOf` and `previewTable` of `previews`, the finishes `answer` of
+-- `graph`. The arbiter's calls are in specs/OnBytes.antt of `lent`.
 --
 -- Statuses: 0 accepted, done or given, 1 refused, 2 the answer or the finishes have too few places. With 2 every slice keeps its contents.
 use mathlib.Core.Path.{_≡_}
@@ -16,8 +16,9 @@ use Rattle.image.specs.declared.Outline.{Outline}
 use Rattle.image.specs.declared.Verdict.the-variants.{Accepted}
 use Rattle.answers.specs.Answers.{Result, given, refused, answer, tableAfter}
 use Rattle.answers.specs.WholeRuns.{WholeRuns}
-use Rattle.edits.specs.Edits.{Change, done, refused as notDone, imageWith, change, imageAfter, previewOf, previewTable}
+use Rattle.edits.specs.Edits.{Change, done, refused as notDone, imageWith, change, imageAfter}
 use Rattle.edits.specs.Promise.{Editable, Leaves}
+use Rattle.previews.specs.Previews.{previewOf, previewTable}
 use Rattle.graph.specs.Table.{Result as FinishesResult, finished, refused as refusedTable, answer as finishesAnswer}
 use Rattle.graph.specs.Conditions.{AcceptedTable}
 use Rattle.graph.specs.Promise.{Finishing}

@@ -10,7 +10,7 @@
 //   slotfigures_finishes  `finishesCall`; ruled out: another number than 21, finishes of fewer than 64 places that are written to
 //   slotfigures_arbiter_reset, _tick, _write, _read, _line
 //                         `arbiterCall` of that caller and call; ruled out: a state of 50 bytes that is taken, the core named in the caller's place
-// The numbers are those of `image::judge`, `figures::figures`, `edits::edit`, `edits::preview`, `graph::finishes` and the calls of `callers`,
+// The numbers are those of `image::judge`, `figures::figures`, `edits::edit`, `previews::preview`, `graph::finishes` and the calls of `callers`,
 // whose promises hold of them. Of the places that a program reads, `WholeFigures` and `WholePreview` say that figures are given and repeat demand
 // 3, `WholeEdit` what an edit leaves, and `WholeFinishes` what finishes say of all starts, ends and whole runs. Calls to the arbiter one after
 // the other lead where `afterAllBy` of `callers` leads, so its laws and those of `arbiter` hold of the bytes (`bytes-lead`, `bytes-same-answers`
@@ -124,7 +124,7 @@ pub extern "C" fn slotfigures_preview(
     if answer.len() < FIGURES {
         return SHORT;
     }
-    let found = edits::preview(
+    let found = previews::preview(
         image,
         node as usize,
         lowest as usize,

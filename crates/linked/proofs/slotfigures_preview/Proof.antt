@@ -1,7 +1,7 @@
 -- The answer takes what `preview` found, and that is the definition's, with demand 3 of the edited image besides.
 use borrow.Author.Needs.{needs}
 use native.Mathlib.Omega.{arith}
-use Rattle.edits.specs.Edits.{previewOf, previewTable}
+use Rattle.previews.specs.Previews.{previewOf, previewTable}
 use Rattle.linked.proofs.Calls.{told-short, told-call, no-preview, told-preview}
 use Rattle.linked.proofs.slotfigures_preview.Statement.{statement}
 use Rattle.linked.proofs.slotfigures_preview.Tie as tie

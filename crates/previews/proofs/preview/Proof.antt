@@ -1,8 +1,8 @@
 -- A refusal is passed on and the table stays; else the figures are those of the copy, which is the image after the edit.
 use borrow.Author.Needs.{needs}
-use Rattle.edits.proofs.Promises.{preview-refused, refused-foreseen, preview-given, given-foreseen}
-use Rattle.edits.proofs.preview.Statement.{statement}
-use Rattle.edits.proofs.preview.Tie as tie
+use Rattle.previews.proofs.Promises.{preview-refused, refused-foreseen, preview-given, given-foreseen}
+use Rattle.previews.proofs.preview.Statement.{statement}
+use Rattle.previews.proofs.preview.Tie as tie
 
 find-requires : tie.Need-find-requires
 find-requires c κs = search needs

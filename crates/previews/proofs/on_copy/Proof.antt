@@ -7,10 +7,10 @@ use lib.Seq.{length-take-le}
 use native.Mathlib.Omega.{arith}
 use Prim.Native.Nat.{_+_}
 use Rattle.image.specs.Conditions.{longestImage}
 use Rattle.edits.specs.Edits.{withDurations}
 use Rattle.edits.proofs.Written.{written-copy}
-use Rattle.edits.proofs.on_copy.Statement.{statement}
-use Rattle.edits.proofs.on_copy.Tie as tie
+use Rattle.previews.proofs.on_copy.Statement.{statement}
+use Rattle.previews.proofs.on_copy.Tie as tie
 
 slice-aggregate-fill : tie.Need-slice-aggregate-fill
 slice-aggregate-fill c = search needs

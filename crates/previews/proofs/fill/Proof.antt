@@ -7,8 +7,8 @@ use lib.Seq.{take-length}
 use native.Mathlib.Omega.{arith}
 use Prim.Native.Nat.{_-_, _≤_}
 use Rattle.figures.proofs.Filling.{taken-more}
-use Rattle.edits.proofs.fill.Statement.{statement}
-use Rattle.edits.proofs.fill.Tie as tie
+use Rattle.previews.proofs.fill.Statement.{statement}
+use Rattle.previews.proofs.fill.Tie as tie
 
 abbrev Inv-loop : tie.InvT-loop
 Inv-loop copy₀ image i₀ copy i = (i ≤ length image) × (length copy ≡ length copy₀) × (copy ≡ take i image ++ drop i copy₀)
