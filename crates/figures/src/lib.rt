@@ -1,14 +1,11 @@
 // figures: THE entry. An image and a lent table in, an answer out; demands 1, 2 and 3 are its contract.
 //
 // `figures` has no `requires` and promises, for every image and every table:
-//   equality  the answer and the table at exit equal definitions over the image's bytes and the table at entry (specs/Answers.antt):
+//   equality  the answer and the table at exit equal definitions over the image's bytes and the table at entry (`answer`, `tableAfter`):
 //             a refusal's number and place, the table unchanged; or both figures, the exit count and the filled table;
-//   demand3   an accepted image with a place for each offset is given figures, and one statement about all its whole runs holds of them
-//             (specs/WholeRuns.antt);
-//   demand2   the published figure is that of Algorithms 1 to 3, and each access takes the wait of Equation 7 and its own cycles
-//             (specs/Accesses.antt).
-// The three parts and what they speak of are definitions of crate answers; what a run, a wait and both methods are is in crates/runs/specs. specs/Steps.antt
-// is between functions of this crate.
+//   demand3   an accepted image with a place for each offset is given figures, and one statement about all its whole runs holds of them (`WholeRuns`);
+//   demand2   the published figure is that of Algorithms 1 to 3, and each access takes the wait of Equation 7 and its own cycles (`ByAlgorithms`).
+// These definitions are crate answers'; what a run, a wait and both methods are is in crates/runs/specs. specs/Steps.antt is between functions of this crate.
 ghost use mathlib.Core.Path.{_≡_};
 ghost use mathlib.Core.List.{_++_};
 ghost use Prim.Native.Nat.{_≤_};
