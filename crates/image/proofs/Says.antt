@@ -30,6 +30,10 @@ by-cond : {A : Type 0} (P : A → Type 0) (b : Bool) (x y : A) → (b ≡ true �
 by-cond P true x y f g = f refl
 by-cond P false x y f g = g refl
 
+by-test : {A : Type 0} (b : Bool) → (b ≡ true → A) → (b ≡ false → A) → A
+by-test true f g = f refl
+by-test false f g = g refl
+
 module _ (s : List ℕ) where
   -- of the field with k fields before it
   abbrev pub FieldSays : ℕ → Judgement → Type 0
@@ -46,6 +50,9 @@ module _ (s : List ℕ) where
   VerdictSays (Refused r place) = Condition s r place
   VerdictSays (Accepted t) = Accepting s t
 
+  judged-as : (k : ℕ) (j : Judgement) → fieldOf s (fieldAt s k) k ≡ j → FieldSays k j → FieldSays k (fieldOf s (fieldAt s k) k)
+  judged-as k j e c = subst (FieldSays k) (sym e) c
+
   pub field-says : (k : ℕ) → Passed s k → fieldAt s k < length s → FieldSays k (fieldOf s (fieldAt s k) k)
   unfolding fieldOf
   field-says k p l =
@@ -53,35 +60,28 @@ module _ (s : List ℕ) where
       let t = tagAt s k in
       let w = lengthAt s k in
       let b = bodyAt s k in
-      let p7 = Good (b + w) in
-      let p6 = cond (not (childrenOk s t b w k)) (Bad Forward) p7 in
-      let p5 = cond (not (valueOk s t b w)) (Bad Value) p6 in
-      let p4 = cond (ltb (length s - at - 3) w) (Bad Cut) p5 in
-      let p3 = cond (not (lengthOk t w)) (Bad Length) p4 in
-      let p2 = cond (leb 258 k) (Bad Full) p3 in
-      let p1 = cond (not (tagOk k t)) (Bad Tag) p2 in
-      by-cond (FieldSays k) (ltb (length s - at) 3) (Bad Cut) p1
-      (λ e. head-cut k p l (omega (arith, ltb-true (length s - at) 3 e)))
+      by-test (ltb (length s - at) 3)
+      (λ e. judged-as k (Bad Cut) (rw e) (head-cut k p l (omega (arith, ltb-true (length s - at) 3 e))))
       (λ e1. let h : at + 3 ≤ length s = omega (arith, ltb-false (length s - at) 3 e1) in
-      by-cond (FieldSays k) (not (tagOk k t)) (Bad Tag) p2
-      (λ e. wrong-tag k p h (fails _ (tag-here s k) (not-true _ e)))
+      by-test (not (tagOk k t))
+      (λ e. judged-as k (Bad Tag) (rw (e1, e)) (wrong-tag k p h (fails _ (tag-here s k) (not-true _ e))))
       (λ e2. let u : UpToTag s k = (h, tag-here s k .holds (not-false _ e2)) in
-      by-cond (FieldSays k) (leb 258 k) (Bad Full) p3
-      (λ e. full k p u (leb-true 258 k e))
+      by-test (leb 258 k)
+      (λ e. judged-as k (Bad Full) (rw (e1, e2, e)) (full k p u (leb-true 258 k e)))
       (λ e3. let r = leb-false 258 k e3 in
-      by-cond (FieldSays k) (not (lengthOk t w)) (Bad Length) p4
-      (λ e. wrong-length k p (u, r) (fails _ (length-here s k) (not-true _ e)))
+      by-test (not (lengthOk t w))
+      (λ e. judged-as k (Bad Length) (rw (e1, e2, e3, e)) (wrong-length k p (u, r) (fails _ (length-here s k) (not-true _ e))))
       (λ e4. let n = length-here s k .holds (not-false _ e4) in
       let d = value-here s k ((u, r), n) in
-      by-cond (FieldSays k) (ltb (length s - at - 3) w) (Bad Cut) p5
-      (λ e. body-cut k p ((u, r), n) (omega (arith, ltb-true (length s - at - 3) w e)))
+      by-test (ltb (length s - at - 3) w)
+      (λ e. judged-as k (Bad Cut) (rw (e1, e2, e3, e4, e)) (body-cut k p ((u, r), n) (omega (arith, ltb-true (length s - at - 3) w e))))
       (λ e5. let i : b + w ≤ length s = omega (arith, ltb-false (length s - at - 3) w e5) in
-      by-cond (FieldSays k) (not (valueOk s t b w)) (Bad Value) p6
-      (λ e. wrong-value k p (((u, r), n), i) (fails _ d (not-true _ e)))
+      by-test (not (valueOk s t b w))
+      (λ e. judged-as k (Bad Value) (rw (e1, e2, e3, e4, e5, e)) (wrong-value k p (((u, r), n), i) (fails _ d (not-true _ e))))
       (λ e6. let v : UpToValue s k = ((((u, r), n), i), d .holds (not-false _ e6)) in
-      by-cond (FieldSays k) (not (childrenOk s t b w k)) (Bad Forward) p7
-      (λ e. not-below k p v (fails _ (child-here s k) (not-true _ e)))
-      (λ e7. ((v, child-here s k .holds (not-false _ e7)), sym (next-at s k)))))))))
+      by-test (not (childrenOk s t b w k))
+      (λ e. judged-as k (Bad Forward) (rw (e1, e2, e3, e4, e5, e6, e)) (not-below k p v (fails _ (child-here s k) (not-true _ e))))
+      (λ e7. judged-as k (Good (b + w)) (rw (e1, e2, e3, e4, e5, e6, e7)) ((v, child-here s k .holds (not-false _ e7)), sym (next-at s k)))))))))
     where
       full : (k : ℕ) → Passed s k → UpToTag s k → 258 ≤ k → Condition s Full (fieldAt s k)
       full k p u q =

@@ -25,18 +25,19 @@ pub record Here (s places : List ℕ) (index at : ℕ) : Type 0 where
   pub passed : Passed s index
   pub placed : Placed s index places
 
-pub here-first : (s : List ℕ) → Here s (replicate 256 0) 0 0
-here-first s =
+-- no field is passed yet: the places are all behind the last node
+pub here-first : (s : List ℕ) (x : ℕ) → x ≡ 0 → Here s (replicate 256 x) 0 0
+here-first s x e =
     record {
       place = sym (first-at s);
       passed = λ k h. absurd (not-suc-le-zero h);
-      placed = record { long = length-replicate {A = ℕ} 256 0; each = λ k h. absurd (not-suc-le-zero h); behind = λ k h. blank 256 k };
+      placed = record { long = length-replicate {A = ℕ} 256 x; each = λ k h. absurd (not-suc-le-zero h); behind = λ k h. blank x e 256 k };
     }
   where
-    blank : (n k : ℕ) → _≡_ {A = ℕ} (getD (replicate n 0) k 0) 0
-    blank zero k = refl
-    blank (suc n) zero = refl
-    blank (suc n) (suc k) = blank n k
+    blank : (x : ℕ) → x ≡ 0 → (n k : ℕ) → getD (replicate n x) k 0 ≡ 0
+    blank x e zero k = refl
+    blank x e (suc n) zero = e
+    blank x e (suc n) (suc k) = blank x e n k
 
 module _ (s places : List ℕ) (index at : ℕ) (h : Here s places index at) where
   pub here-good : (next : ℕ) → at < length s → fieldOf s at index ≡ Good next → GoodField s index × (next ≡ fieldAt s (suc index))

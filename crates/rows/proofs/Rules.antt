@@ -1,7 +1,7 @@
 -- The tests of specs/Fields.antt are true if and only if the rules of specs/Rules.antt hold, row by row.
 use mathlib.Core.Path.{_≡_, refl}
 use mathlib.Core.Bool.{Bool, true, false, cond, _&&_}
-use mathlib.Core.Logic.{_⊎_, inl, inr, ⊎-elim}
+use mathlib.Core.Logic.{inl, inr, ⊎-elim}
 use mathlib.Core.List.{List}
 use Prim.Native.Nat.{ℕ, _+_, _-_, _*_, _/_, _%_, _≤_, _<_}
 use native.Mathlib.Omega.{arith}
@@ -129,11 +129,11 @@ unfolding plainOk
 durations-kept lo hi e =
     let p = both (leb hi 65535) (leb lo hi && leb (hi - lo) 63) e in
     let q = both (leb lo hi) (leb (hi - lo) 63) (p .1) in
-    record { most = leb-true hi 65535 (p .0); order = leb-true lo hi (q .0); near = leb-true (hi - lo) 63 (q .1) }
+    record { most = leb-true hi 65535 (p .0); order = leb-true lo hi (q .0); near = omega (arith, leb-true (hi - lo) 63 (q .1)) }
 
 pub kept-durations : (lo hi : ℕ) → Durations lo hi → plainOk lo hi ≡ true
 unfolding plainOk
-kept-durations lo hi d = simp (le-leb hi 65535 (d .most), le-leb lo hi (d .order), le-leb (hi - lo) 63 (d .near))
+kept-durations lo hi d = simp (le-leb hi 65535 (d .most), le-leb lo hi (d .order), le-leb (hi - lo) 63 (omega (arith, d .near)))
 
 access-kept : (lo hi most : ℕ) → accessOk lo hi most ≡ true → Accesses lo hi most
 unfolding accessOk
@@ -167,13 +167,6 @@ kept-fetches : (line lo hi hit most : ℕ) → Fetches line lo hi hit most → o
 unfolding onceOk
 kept-fetches line lo hi hit most f = simp (le-leb line 3 (f .line-most), le-leb hit 65535 (f .hit-most), kept-access lo hi most (f .access))
 
-kind-kept : (kind : ℕ) → within 1 2 kind ≡ true → (kind ≡ 1) ⊎ (kind ≡ 2)
-kind-kept kind e = let w = is-within 1 2 kind e in ⊎-elim (λ is. inl is) (λ n. inr (omega (arith, w .0, w .1, n))) (eq-or-ne kind 1)
-
-kept-kind : (kind : ℕ) → (kind ≡ 1) ⊎ (kind ≡ 2) → within 1 2 kind ≡ true
-kept-kind kind (inl e) = rw e
-kept-kind kind (inr e) = rw e
-
 turns-most : (n : ℕ) → lengthOk 9 n ≡ true → n ≤ 65
 unfolding lengthOk
 turns-most n e = parity 1 3 65 n e .1
@@ -188,7 +181,8 @@ module _ (s : List ℕ) (tag body n : ℕ) where
       (λ w. row (eqb tag 3) _ _ (λ t e. ValueRule.plain (eqb-true tag 3 t) (durations-kept _ _ e))
       (λ n3. row (eqb tag 4) _ _
       (λ t e. let p = both (within 1 2 (byteAt s body)) (accessOk (byteAt s (body + 1)) (byteAt s (body + 2)) (said s .most)) e in
-      ValueRule.block (eqb-true tag 4 t) (kind-kept (byteAt s body) (p .0)) (access-kept _ _ _ (p .1)))
+      let w = is-within 1 2 (byteAt s body) (p .0) in
+      ValueRule.block (eqb-true tag 4 t) (⊎-elim (λ is. inl is) (λ n. inr (omega (arith, w .0, w .1, n))) (eq-or-ne (byteAt s body) 1)) (access-kept _ _ _ (p .1)))
       (λ n4. row (within 5 6 tag) _ _ (λ t e. let p = is-within 5 6 tag t in ValueRule.children (p .0) (p .1))
       (λ n5. row (eqb tag 7) _ _ (λ t e. ValueRule.loop (eqb-true tag 7 t) (counts-kept _ _ e)) (λ n7. none)))))
       (λ w. row (eqb tag 9) _ _
@@ -200,7 +194,9 @@ module _ (s : List ℕ) (tag body n : ℕ) where
   value-passes (ValueRule.bus t h) = rw t (kept-ranges _ h)
   value-passes (ValueRule.starts t h) = rw t (kept-starts s (said s .period) body n 0 h (λ l. omega arith))
   value-passes (ValueRule.plain t h) = rw t (kept-durations _ _ h)
-  value-passes (ValueRule.block t k h) = rw t (simp (kept-kind (byteAt s body) k, kept-access _ _ _ h))
+  value-passes (ValueRule.block t k h) =
+      let w : within 1 2 (byteAt s body) ≡ true = ⊎-elim (λ e. rw e) (λ e. rw e) k in
+      rw t (simp (w, kept-access _ _ _ h))
   value-passes (ValueRule.children lo hi) =
       simp (
         ne-eqb tag 1 (λ e. omega arith),

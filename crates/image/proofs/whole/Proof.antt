@@ -20,7 +20,7 @@ use borrow.Author.Tests.{lt-ltb, le-ltb}
 
 returns : tie.Need-returns
 unfolding wholeOf
-returns c = simp (lt-ltb _ _ (c .if1 .taken))
+returns c = simp (lt-ltb (c .before .before .args .count) 3 (omega (arith, c .if1 .taken)))
 
 sub-weights : tie.Need-sub-weights
 sub-weights c = search needs

@@ -5,6 +5,9 @@ use Rattle.image.proofs.fields.field.Tie as tie
 use Rattle.image.specs.Judged.{fieldOf}
 use Rattle.rows.proofs.Kept.{later-field}
 use mathlib.Core.Path.{sym, _∙_}
+use Prim.Native.Nat.{_-_}
+use native.Mathlib.Omega.{arith}
+use lib.ListN.{length}
 use borrow.Author.Tests.{le-leb, lt-leb, lt-ltb, le-ltb, not-true, not-false}
 
 sub-left : tie.Need-sub-left
@@ -13,7 +16,8 @@ sub-left c = search needs
 returns : tie.Need-returns
 unfolding fieldOf
 returns c =
-    simp (lt-ltb _ _ (c .if1 .taken))
+    let a = c .before .before .args in
+    simp (lt-ltb (length (a .image .now) - a .at) 3 (omega (arith, c .if1 .taken)))
 
 byte-requires : tie.Need-byte-requires
 byte-requires c κs = search needs
@@ -37,7 +41,7 @@ returns-3 c =
     (simp (
       le-ltb _ _ (c .before .before .before .before .if1 .left),
       sym (c .before .before .tag-ok .ensures) ∙ not-false _ (c .before .if2 .left),
-      le-leb 258 _ (c .if3 .taken),
+      le-leb 258 (c .before .before .before .before .before .before .args .index) (omega (arith, c .if3 .taken)),
     ))
 
 add-word : tie.Need-add-word
@@ -97,7 +101,9 @@ returns-6 c =
       lt-leb 258 _ (c .before .before .before .before .before .before .before .if3 .left),
       sym (c .before .before .before .before .before .length-ok .ensures) ∙ not-false _ (c .before .before .before .before .if4 .left),
       le-ltb _ _ (c .before .before .before .if5 .left),
-      sym (c .before .before .value-ok .ensures) ∙ not-true _ (c .if6 .taken),
+      sym (c .before .before .value-ok .ensures),
+      sym (c .before .children-ok .ensures),
+      c .if6 .taken,
     ))
 
 returns-7 : tie.Need-returns-7
@@ -110,8 +116,10 @@ returns-7 c =
       lt-leb 258 _ (c .before .before .before .before .before .before .before .before .if3 .left),
       sym (c .before .before .before .before .before .before .length-ok .ensures) ∙ not-false _ (c .before .before .before .before .before .if4 .left),
       le-ltb _ _ (c .before .before .before .before .if5 .left),
-      sym (c .before .before .before .value-ok .ensures) ∙ not-false _ (c .before .if6 .left),
-      sym (c .before .before .children-ok .ensures) ∙ not-true _ (c .if7 .taken),
+      sym (c .before .before .before .value-ok .ensures),
+      sym (c .before .before .children-ok .ensures),
+      c .before .if6 .left,
+      c .if7 .taken,
     ))
 
 add-t9 : tie.Need-add-t9
@@ -130,8 +138,10 @@ returns-8 c =
       lt-leb 258 _ (c .before .before .before .before .before .before .before .before .if3 .left),
       sym (c .before .before .before .before .before .before .length-ok .ensures) ∙ not-false _ (c .before .before .before .before .before .if4 .left),
       le-ltb _ _ (c .before .before .before .before .if5 .left),
-      sym (c .before .before .before .value-ok .ensures) ∙ not-false _ (c .before .if6 .left),
-      sym (c .before .before .children-ok .ensures) ∙ not-false _ (c .if7 .left),
+      sym (c .before .before .before .value-ok .ensures),
+      sym (c .before .before .children-ok .ensures),
+      c .before .if6 .left,
+      c .if7 .left,
     ))
 
 pub field-spec : {M : Type 1} → statement M

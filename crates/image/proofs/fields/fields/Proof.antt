@@ -17,7 +17,7 @@ abbrev μ-loop : tie.MeasureT-loop
 μ-loop image places₀ index₀ at₀ places index at = length image - at
 
 loop-holds : tie.Need-loop-holds Inv-loop μ-loop
-loop-holds c = here-first _
+loop-holds c = here-first _ _ (omega arith)
 
 field-requires : tie.Need-field-requires Inv-loop μ-loop
 field-requires c κs = (omega arith, λ l. first-fine _ (c .before .loop .inv .passed 0 l))
