@@ -9,7 +9,7 @@ use Rattle.runs.specs.Runs.{Task, placesOf}
 use Rattle.runs.specs.Figures.{published}
 use Rattle.runs.proofs.LinesLaws.{lines-turn}
 use Rattle.runs.proofs.Accesses.{access-only, access-ends}
-use Rattle.schedule.specs.Said.{said, Ranged}
+use Rattle.schedule.specs.Said.{Ranged}
 use Rattle.schedule.proofs.Sayings.{slots-most, slots-wait, turns-period, turns-wait, said-lawful, first-tag}
 use Rattle.image.specs.Tasks.{taskOf}
 use Rattle.image.specs.declared.Outline.{Outline}
@@ -41,7 +41,6 @@ by-algorithms s k f ok costs =
           (omega (arith, slots-wait s tag e (placesOf (taskOf s k) .offset (x .at))));
       unequal-wait = λ tag e x pos le l.
           let o = placesOf (taskOf s k) .offset (x .at) in (
-            said s .wait e o,
             turns-wait s ok tag e o (omega (arith, pos)) (omega (arith, le)) (omega (arith, turns-period s tag, offset-below (taskOf s k) law x l)),
             access-takes (taskOf s k) law x l e (omega (arith, pos)) (omega (arith, le)) _ (omega arith),
           );

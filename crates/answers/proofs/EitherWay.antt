@@ -17,7 +17,6 @@ use Rattle.schedule.specs.Said.{slotsAt, said}
 use Rattle.schedule.specs.Written.{slotsField, turnsField}
 use Rattle.schedule.proofs.Sayings.{slots-ranged}
 use Rattle.schedule.proofs.Writings.{evenly}
-use Rattle.nodes.specs.Nodes.{nodeAt}
 use Rattle.image.specs.Tasks.{taskOf}
 use Rattle.image.specs.Judged.{judged}
 use Rattle.image.specs.Moved.{moved}

@@ -38,9 +38,11 @@ pub record ByAlgorithms (s : List ℕ) (k : Outline) (f : Totals) : Type 0 where
   -- the wait of each access is Equation 7, on the image's own cores, slot and core number: from each state it takes that and its own cycles
   pub wait : byteAt s 0 ≡ 1 → (e : ℕ) (x : State) → 1 ≤ e → e ≤ slotsAt s .slot → x .at < placesOf (taskOf s k) .size
       → AccessTakes (taskOf s k) e x (equation7 (slotsAt s) e (placesOf (taskOf s k) .offset (x .at)) + e)
-  -- where a schedule stands in their place (W5, tag 9), the least number of cycles after which the core owns as many, and its own
+  -- where a schedule stands in their place (W5, tag 9), the wait of both figures is the least number of cycles after which the core owns as many, and an
+  -- access takes that and its own
   pub unequal-wait : byteAt s 0 ≡ 9 → (e : ℕ) (x : State) → 1 ≤ e → e ≤ taskOf s k .bus .most → x .at < placesOf (taskOf s k) .size
-      → (w : ℕ) × LeastOwned (scheduleAt s) e (placesOf (taskOf s k) .offset (x .at)) w × AccessTakes (taskOf s k) e x (w + e)
+      → LeastOwned (scheduleAt s) e (placesOf (taskOf s k) .offset (x .at)) (taskOf s k .bus .wait e (placesOf (taskOf s k) .offset (x .at)))
+      × AccessTakes (taskOf s k) e x (taskOf s k .bus .wait e (placesOf (taskOf s k) .offset (x .at)) + e)
   -- there is no third
   pub first-tag : (byteAt s 0 ≡ 1) ⊎ (byteAt s 0 ≡ 9)
 

@@ -11,7 +11,7 @@ use Rattle.arbiter.specs.declared.Arbiter.{Arbiter}
 use Rattle.arbiter.specs.declared.Outcome.{Outcome}
 use Rattle.arbiter.specs.declared.Registers.{Registers}
 use Rattle.image.specs.declared.Refusal.the-variants.{Register}
-use Rattle.arbiter.specs.Device.{sized, fits, flagsFit, formed, usable, clear, registersOf, slotsAt, stepped, ticked, writable, busy, cleared, withRegisters}
+use Rattle.arbiter.specs.Device.{sized, fits, flagsFit, formed, usable, clear, registersOf, slotsOfCore, stepped, ticked, writable, busy, cleared, withRegisters}
 use Rattle.arbiter.specs.declared.Call.{Call}
 use Rattle.arbiter.specs.declared.Call.the-variants.{Read, Line, Write, Tick, Reset}
 use Rattle.arbiter.specs.Calls.{outcome, after, written, refuse, leave}
@@ -106,9 +106,9 @@ pub tick-refused : (a : Arbiter) → formed a ≡ false → after Tick a ≡ a
 unfolding outcome
 tick-refused a f = ap (λ (t : Bool). cond t (leave (ticked a)) (refuse Register a) .state) f
 
-pub ticked-registers : (a : Arbiter) (p : ℕ) → registersOf (ticked a) p ≡ stepped (slotsAt a p) (a .offset) (registersOf a p)
+pub ticked-registers : (a : Arbiter) (p : ℕ) → registersOf (ticked a) p ≡ stepped (slotsOfCore a p) (a .offset) (registersOf a p)
 unfolding ticked
-ticked-registers a p = stepped-at a (a .registers) 0 p ∙ ap (λ (n : ℕ). stepped (slotsAt a n) (a .offset) (registersOf a p)) (omega arith)
+ticked-registers a p = stepped-at a (a .registers) 0 p ∙ ap (λ (n : ℕ). stepped (slotsOfCore a n) (a .offset) (registersOf a p)) (omega arith)
 
 pub ticked-length : (a : Arbiter) → length (ticked a .registers) ≡ length (a .registers)
 unfolding ticked

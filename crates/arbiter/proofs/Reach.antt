@@ -14,7 +14,7 @@ use Rattle.runs.specs.Slots.{Slots, first, periodOf, inSlot}
 use Rattle.runs.proofs.Cases.{split, either}
 use Rattle.arbiter.specs.declared.Arbiter.{Arbiter}
 use Rattle.arbiter.specs.declared.Registers.{Registers}
-use Rattle.arbiter.specs.Device.{sized, formed, clear, registersOf, slotsAt, startsNow, countDown, stepped, ticked, cleared, withRegisters}
+use Rattle.arbiter.specs.Device.{sized, formed, clear, registersOf, slotsOfCore, startsNow, countDown, stepped, ticked, cleared, withRegisters}
 use Rattle.arbiter.specs.declared.Call.{Call}
 use Rattle.arbiter.specs.declared.Call.the-variants.{Read, Line, Write, Tick, Reset}
 use Rattle.arbiter.specs.Calls.{after, afterAll}
@@ -31,7 +31,7 @@ Inside v o r = r .flags ≡ 2 → (first v ≤ o) × (o + r .length ≤ first v 
 pub record Sane (a : Arbiter) : Type 0 where
   pub formed-is : formed a ≡ true
   pub cores-all : length (a .registers) ≡ 16
-  pub inside : (p : ℕ) → Inside (slotsAt a p) (a .offset) (registersOf a p)
+  pub inside : (p : ℕ) → Inside (slotsOfCore a p) (a .offset) (registersOf a p)
   -- an unused core's registers are clear
   pub unused : (p : ℕ) → a .cores ≤ p → registersOf a p ≡ clear
 
@@ -86,8 +86,8 @@ unfolding ticked
 ticked-sane a s = record {
   formed-is = ticked-formed a (s .formed-is);
   cores-all = ticked-length a ∙ s .cores-all;
-  inside = λ p. rw (ticked-registers a p) (stepped-inside (slotsAt a p) (a .offset) (registersOf a p) (formed-true a (s .formed-is) .offset-lt) (s .inside p));
-  unused = λ p l. ticked-registers a p ∙ ap (stepped (slotsAt a p) (a .offset)) (s .unused p l) ∙ stepped-clear (slotsAt a p) (a .offset);
+  inside = λ p. rw (ticked-registers a p) (stepped-inside (slotsOfCore a p) (a .offset) (registersOf a p) (formed-true a (s .formed-is) .offset-lt) (s .inside p));
+  unused = λ p l. ticked-registers a p ∙ ap (stepped (slotsOfCore a p) (a .offset)) (s .unused p l) ∙ stepped-clear (slotsOfCore a p) (a .offset);
 }
 
 wrote-sane : (q : ℕ) (a b : Arbiter) → Wrote q a b → Sane a → Sane b
@@ -96,11 +96,11 @@ wrote-sane q a b (put-there r l f g t) s =
     let n = wrote-frame q a (withRegisters a q r) (put-there r l f g t) in
     record { formed-is = ap (λ (x : Frame). x .in-range) n ∙ s .formed-is; cores-all = ap (λ (x : Frame). x .many) n ∙ s .cores-all; inside = λ p. there p; unused = λ p k. wrote-other p q a (withRegisters a q r) (λ i. absurd (omega arith)) (put-there r l f g t) ∙ s .unused p k }
   where
-    turned : (r₀ : Registers) → Rewritten r₀ r → Inside (slotsAt a q) (a .offset) r₀ → Inside (slotsAt a q) (a .offset) r
+    turned : (r₀ : Registers) → Rewritten r₀ r → Inside (slotsOfCore a q) (a .offset) r₀ → Inside (slotsOfCore a q) (a .offset) r
     turned r₀ (waits b′ e) i f = let z : _≡_ {A = ℕ} 1 2 = sym e ∙ f in absurd (omega arith)
     turned r₀ (keeps e l) i f = rw l (i (sym e ∙ f))
 
-    there : (p : ℕ) → Inside (slotsAt a p) (a .offset) (registersOf (withRegisters a q r) p)
+    there : (p : ℕ) → Inside (slotsOfCore a p) (a .offset) (registersOf (withRegisters a q r) p)
     there p =
         same p q
         (λ e. split (length (a .registers)) p

@@ -12,7 +12,7 @@ use Rattle.runs.specs.Slots.{Slots}
 use Rattle.runs.proofs.Cases.{split, either}
 use Rattle.arbiter.specs.declared.Arbiter.{Arbiter}
 use Rattle.arbiter.specs.declared.Registers.{Registers}
-use Rattle.arbiter.specs.Device.{sized, busy, fits, flagsFit, allFit, formed, clear, slotsAt, startsNow, turned, countDown, fallen, stepped, steppedFrom, ticked, cleared, withRegisters}
+use Rattle.arbiter.specs.Device.{sized, busy, fits, flagsFit, allFit, formed, clear, slotsOfCore, startsNow, turned, countDown, fallen, stepped, steppedFrom, ticked, cleared, withRegisters}
 use Rattle.arbiter.proofs.Tests.{and-left, and-right, and-both}
 use Rattle.arbiter.proofs.Formed.{clear-fits, formed-true, formed-make, sized-true}
 
@@ -27,11 +27,11 @@ stepped-clear v o = refl
 
 module _ (a : Arbiter) where
   -- each core's registers after a tick
-  pub stepped-at : (rs : List Registers) (k i : ℕ) → getD (steppedFrom a k rs) i clear ≡ stepped (slotsAt a (k + i)) (a .offset) (getD rs i clear)
+  pub stepped-at : (rs : List Registers) (k i : ℕ) → getD (steppedFrom a k rs) i clear ≡ stepped (slotsOfCore a (k + i)) (a .offset) (getD rs i clear)
   unfolding steppedFrom
-  stepped-at [] k i = sym (stepped-clear (slotsAt a (k + i)) (a .offset))
+  stepped-at [] k i = sym (stepped-clear (slotsOfCore a (k + i)) (a .offset))
   stepped-at (r ∷ rs) k zero = rw (add-zero k)
-  stepped-at (r ∷ rs) k (suc i) = stepped-at rs (suc k) i ∙ ap (λ (n : ℕ). stepped (slotsAt a n) (a .offset) (getD rs i clear)) (omega arith)
+  stepped-at (r ∷ rs) k (suc i) = stepped-at rs (suc k) i ∙ ap (λ (n : ℕ). stepped (slotsOfCore a n) (a .offset) (getD rs i clear)) (omega arith)
 
   pub stepped-length : (rs : List Registers) (k : ℕ) → length (steppedFrom a k rs) ≡ length rs
   unfolding steppedFrom
@@ -55,7 +55,7 @@ stepped-all : (a : Arbiter) (rs : List Registers) (k : ℕ) → allFit (a .slot)
 unfolding steppedFrom allFit
 stepped-all a [] k e = refl
 stepped-all a (r ∷ rs) k e =
-    and-both (stepped-fits (a .slot) (slotsAt a k) (a .offset) r (and-left (fits (a .slot) r) _ e)) (stepped-all a rs (suc k) (and-right (fits (a .slot) r) _ e))
+    and-both (stepped-fits (a .slot) (slotsOfCore a k) (a .offset) r (and-left (fits (a .slot) r) _ e)) (stepped-all a rs (suc k) (and-right (fits (a .slot) r) _ e))
 
 fits-set : (slot : ℕ) (rs : List Registers) (p : ℕ) (r : Registers) → allFit slot rs ≡ true → fits slot r ≡ true → allFit slot (set rs p r) ≡ true
 unfolding allFit

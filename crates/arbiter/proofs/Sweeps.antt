@@ -9,7 +9,7 @@ use lib.Seq.{drop-cons, take-suc-set, drop-set-lt, take-all}
 use Prim.Native.Nat.{ℕ, suc, _+_, _≤_, _<_}
 use Rattle.arbiter.specs.declared.Arbiter.{Arbiter}
 use Rattle.arbiter.specs.declared.Registers.{Registers}
-use Rattle.arbiter.specs.Device.{fits, allFit, clear, slotsAt, stepped, steppedFrom}
+use Rattle.arbiter.specs.Device.{fits, allFit, clear, slotsOfCore, stepped, steppedFrom}
 
 pub fit-more : (slot : ℕ) (rs : List Registers) (i : ℕ) → i < length rs → allFit slot (drop i rs) ≡ (fits slot (getD rs i clear) && allFit slot (drop (i + 1) rs))
 unfolding allFit
@@ -24,10 +24,10 @@ module _ (a : Arbiter) where
   abbrev pub swept : ℕ → List Registers → List Registers
   swept i rs = take i rs ++ steppedFrom a i (drop i rs)
 
-  pub swept-more : (rs : List Registers) (i : ℕ) → i < length rs → swept (i + 1) (set rs i (stepped (slotsAt a i) (a .offset) (getD rs i clear))) ≡ swept i rs
+  pub swept-more : (rs : List Registers) (i : ℕ) → i < length rs → swept (i + 1) (set rs i (stepped (slotsOfCore a i) (a .offset) (getD rs i clear))) ≡ swept i rs
   unfolding steppedFrom
   swept-more rs i h =
-      let x = stepped (slotsAt a i) (a .offset) (getD rs i clear) in
+      let x = stepped (slotsOfCore a i) (a .offset) (getD rs i clear) in
       let t : take (suc i) (set rs i x) ≡ take i rs ++ (x ∷ []) = take-suc-set rs i x h in
       let d : drop (suc i) (set rs i x) ≡ drop (suc i) rs = drop-set-lt (suc i) rs i x (omega arith) in
       rw (add-one, t, d, append-assoc (take i rs) (x ∷ []) (steppedFrom a (suc i) (drop (suc i) rs)), drop-cons rs i clear h)

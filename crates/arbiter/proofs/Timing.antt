@@ -23,7 +23,7 @@ use Rattle.arbiter.specs.declared.Outcome.{Outcome}
 use Rattle.arbiter.specs.declared.Registers.{Registers}
 use Rattle.arbiter.specs.declared.Reply.{Reply}
 use Rattle.arbiter.specs.declared.Reply.the-variants.{Accepted, Refused}
-use Rattle.arbiter.specs.Device.{sized, formed, usable, clear, registersOf, slotsAt, startsNow, countDown, stepped, ticked, withRegisters, busy, writable, cleared}
+use Rattle.arbiter.specs.Device.{sized, formed, usable, clear, registersOf, slotsOfCore, startsNow, countDown, stepped, ticked, withRegisters, busy, writable, cleared}
 use Rattle.arbiter.specs.declared.Call.{Call}
 use Rattle.arbiter.specs.declared.Call.the-variants.{Read, Line, Write, Tick, Reset}
 use Rattle.arbiter.specs.Calls.{outcome, after, answer, afterAll, written, refuse, leave}
@@ -221,7 +221,7 @@ finished-after slot p Tick s e a x =
       formed-so = ticked-formed s (x .formed-so);
       slot-so = ticked-slot s ∙ x .slot-so;
       long-so = subst (λ (k : ℕ). p < k) (sym (ticked-length s)) (x .long-so);
-      done-so = ap (λ (r : Registers). r .flags) (ticked-registers s p) ∙ stepped-done (slotsAt s p) (s .offset) (registersOf s p) (x .done-so);
+      done-so = ap (λ (r : Registers). r .flags) (ticked-registers s p) ∙ stepped-done (slotsOfCore s p) (s .offset) (registersOf s p) (x .done-so);
     }
 finished-after slot p (Reset c z) s e a x = subst (λ (b : Arbiter). Finished slot p b) (sym (reset-refused c z s e)) x
 
@@ -233,7 +233,7 @@ finished-all slot p (c ∷ cs) s (more e qs) (more a ls) x = finished-all slot p
 -- ---- the states after it
 module _ (a : Arbiter) (p e : ℕ) (s₀ : Sane a) (t : Taken p e a) where
   abbrev v : Slots
-  v = slotsAt a p
+  v = slotsOfCore a p
 
   ok : HasSlot v
   ok = record { slot-pos = formed-true a (s₀ .formed-is) .size .slot-least; core-lt = t .core-lt }
@@ -289,7 +289,7 @@ module _ (a : Arbiter) (p e : ℕ) (s₀ : Sane a) (t : Taken p e a) where
       ap (λ (b : Arbiter). registersOf b p) (tick-leaves s (x .clocked .good)) ∙ ticked-registers s p
       ∙ ap (λ (w : Slots). stepped w (s .offset) (registersOf s p)) (kept (x .clocked)) ∙ ap (λ (o : ℕ). stepped v o (registersOf s p)) (x .clocked .moved)
     where
-      kept : Clocked a n s → slotsAt s p ≡ v
+      kept : Clocked a n s → slotsOfCore s p ≡ v
       kept y = let c = y .cores-kept in let l = y .slot-kept in λ i. record { cores = c i; slot = l i; core = p }
 
   next-at : (n : ℕ) (s : Arbiter) → At n s → n + 1 < due → At (n + 1) (after Tick s)
@@ -356,7 +356,7 @@ unfolding equalSlots
 as-the-clock {a} re p e x =
     let sn = reached-sane re in
     let t = taken p e a x in
-    let v = slotsAt a p in
+    let v = slotsOfCore a p in
     let q = offsets (a .cores * a .slot) in
     let n = equation7 v e (a .offset) + e in
     let l = equal-lawful v (ok a p e sn t) in

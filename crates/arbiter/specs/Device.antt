@@ -74,8 +74,8 @@ cleared cores slot = record { cores = cores; slot = slot; offset = 0; registers 
 -- ---- a tick
 
 -- the slots of the bus, seen from core p
-abbrev pub slotsAt : Arbiter → ℕ → Slots
-slotsAt a p = record { cores = a .cores; slot = a .slot; core = p }
+abbrev pub slotsOfCore : Arbiter → ℕ → Slots
+slotsOfCore a p = record { cores = a .cores; slot = a .slot; core = p }
 
 -- a waiting core whose slot, at the offset o, holds its whole length: `inSlot` of document 01's bus
 unfoldable pub startsNow : Slots → ℕ → Registers → Bool
@@ -100,7 +100,7 @@ stepped v o r = fallen (turned v o r)
 -- those of each core, from core p on
 unfoldable pub steppedFrom : Arbiter → ℕ → List Registers → List Registers
 steppedFrom a p [] = []
-steppedFrom a p (r ∷ rs) = stepped (slotsAt a p) (a .offset) r ∷ steppedFrom a (suc p) rs
+steppedFrom a p (r ∷ rs) = stepped (slotsOfCore a p) (a .offset) r ∷ steppedFrom a (suc p) rs
 
 -- "then the offset moves on", from P − 1 to 0
 unfoldable pub ticked : Arbiter → Arbiter

@@ -6,7 +6,7 @@ use lib.Dec.{eqb}
 use Prim.Native.Nat.{ℕ, _+_, _*_, _%_, _≤_, _<_}
 use Rattle.runs.specs.Slots.{equalSlots, equation7}
 use Rattle.runs.specs.Clock.{State, on, offsets, Access}
-use Rattle.arbiter.specs.Device.{sized, registersOf, busy, writable, slotsAt}
+use Rattle.arbiter.specs.Device.{sized, registersOf, busy, writable, slotsOfCore}
 use Rattle.arbiter.specs.declared.Call.{Call}
 use Rattle.arbiter.specs.declared.Call.the-variants.{Read, Line, Write, Tick, Reset}
 use Rattle.arbiter.specs.Calls.{after, answer, afterAll}
@@ -80,11 +80,11 @@ pub record DoneAfter (a : Arbiter) (p e n : ℕ) : Type 0 where
 
 -- "a length written at offset o is done after wait + length ticks": the wait is Equation 7 of 000, the one of both figures
 abbrev pub DoneOnTime : Arbiter → ℕ → ℕ → Type 0
-DoneOnTime a p e = DoneAfter a p e (equation7 (slotsAt a p) e (a .offset) + e)
+DoneOnTime a p e = DoneAfter a p e (equation7 (slotsOfCore a p) e (a .offset) + e)
 
 -- an access of e cycles by the clock of document 01, of core p from the arbiter's offset
 abbrev pub AccessFrom : Arbiter → ℕ → ℕ → ℕ → State → Type 0
-AccessFrom a p e count s = Access (equalSlots (slotsAt a p)) (offsets (a .cores * a .slot)) e (on (a .offset) count) s
+AccessFrom a p e count s = Access (equalSlots (slotsOfCore a p)) (offsets (a .cores * a .slot)) e (on (a .offset) count) s
 
 -- A wait of the clock is a wait of the device: an access of a run takes as many cycles as the device takes ticks from the write to done.
 pub record AsTheClock (a : Arbiter) (p e : ℕ) : Type 0 where

@@ -157,9 +157,9 @@ module _ (v : Slots) (ok : HasSlot v) (two : 2 ≤ v .cores) (short : periodOf v
         fits = omega (arith, in-period);
       }
 
-  listed : InTurn P (owns made) (made .stretches)
+  in-turn : InTurn P (owns made) (made .stretches)
   unfolding after
-  listed = record {
+  in-turn = record {
     begins-long = bs-long;
     lengths-long = ls-long;
     few = omega arith;
@@ -177,7 +177,7 @@ module _ (v : Slots) (ok : HasSlot v) (two : 2 ≤ v .cores) (short : periodOf v
     begins = λ l. begins;
     run = λ l. run;
     nth = λ l. (omega arith, at-begin, of-length);
-    listed = λ l. listed;
+    in-turn = λ l. in-turn;
     lone = λ l. record { low = begins .low; less = omega (arith, two-in, ok .slot-pos); held = at-first; free = after-it };
     some = (f, begins .low, begins .here);
   }

@@ -75,7 +75,7 @@ module _ {own rest : Set} {P : ℕ} (fit : Parted own rest P) (s : Set) (at : Be
           begins = λ k. absurd (omega arith);
           run = λ k. absurd (omega arith);
           nth = λ k. absurd (omega arith);
-          listed = λ k. absurd (omega arith);
+          in-turn = λ k. absurd (omega arith);
           lone = λ k. absurd (not-suc-le-zero k);
           some = fit .some;
         }
@@ -132,9 +132,9 @@ module _ {own rest : Set} {P : ℕ} (fit : Parted own rest P) (s : Set) (at : Be
               (λ u. no-begin ((x + k) % P) (x + k) (mod-eq-of-lt u) (none (x + k) (omega arith) u))),
         )
 
-    listed : InTurn P owns v
+    in-turn : InTurn P owns v
     unfolding after
-    listed = record {
+    in-turn = record {
       begins-long = h .begins-long;
       lengths-long = h .lengths-long;
       few = h .few;
@@ -183,7 +183,7 @@ module _ {own rest : Set} {P : ℕ} (fit : Parted own rest P) (s : Set) (at : Be
         begins = λ k. x-begins;
         run = λ k. run;
         nth = λ k. (far .below, refl, refl);
-        listed = λ k. listed;
+        in-turn = λ k. in-turn;
         lone = lone;
         some = fit .some;
       }

@@ -47,7 +47,7 @@ pub record Fit (b : Bus) : Type 0 where
   pub begins : b .most < b .period → Begins (b .period) (owns b) (b .first)
   pub run : b .most < b .period → IsRun (b .period) (owns b) (b .first) (b .most)
   pub nth : b .most < b .period → Nth (b .stretches) (b .longest) (b .first) (b .most)
-  pub listed : b .most < b .period → InTurn (b .period) (owns b) (b .stretches)
+  pub in-turn : b .most < b .period → InTurn (b .period) (owns b) (b .stretches)
   pub lone : 1 ≤ b .only → Alone b
   pub some : (o : ℕ) × (o < b .period) × (has (value (b .own)) o ≡ true)
 

@@ -58,7 +58,7 @@ pub record Restores (s : List ℕ) (node l h : ℕ) (after : List ℕ) : Type 0 
   pub possible : Editable after node l h
   pub bytes : imageAfter after node l h ≡ s
 
--- what an edit that is done leaves of the image s and its task k
+-- what an edit that is done leaves of the image s, whose outline is k
 pub record Leaves (s : List ℕ) (k : Outline) (node lowest highest : ℕ) (after : List ℕ) : Type 0 where
   -- an accepted image: the same bus, number of starts, nodes and entry
   pub accepted : judged after ≡ Accepted k

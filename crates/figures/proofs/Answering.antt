@@ -1,10 +1,10 @@
 -- The answer for an accepted image, and the promise of the entry from it.
-use mathlib.Core.Path.{_≡_, _∙_}
+use mathlib.Core.Path.{_≡_, _∙_, sym}
 use mathlib.Core.List.{List, _++_}
 use lib.ListN.{length, take, drop}
 use borrow.Author.Tests.{lt-ltb, le-ltb}
 use Prim.Native.Nat.{ℕ, _≤_, _<_}
-use Rattle.runs.specs.Figures.{longestOf, published, tight}
+use Rattle.runs.specs.Figures.{longestOf, published}
 use Rattle.schedule.specs.Said.{said}
 use Rattle.image.specs.Tasks.{taskOf}
 use Rattle.image.specs.declared.Refusal.the-variants.{Table}
@@ -14,21 +14,13 @@ use Rattle.answers.specs.declared.Totals.{Totals}
 use Rattle.answers.specs.declared.Answer.the-variants.{Given, Refused as NotGiven}
 use Rattle.figures.specs.Steps.{Ended, Answered, holding, Answerable}
 use Rattle.figures.proofs.Entries.{tight-entry, count-entries, table-entries}
-use mathlib.Core.Path.{_≡_, sym, _∙_}
-use mathlib.Core.List.{List}
-use lib.ListN.{length}
-use borrow.Author.Tests.{le-ltb}
-use Prim.Native.Nat.{ℕ, _≤_}
 use Rattle.image.specs.Judged.{judged}
 use Rattle.image.specs.Promise.{Judging}
-use Rattle.image.specs.declared.Outline.{Outline}
 use Rattle.image.specs.declared.Verdict.{Verdict}
 use Rattle.image.specs.declared.Verdict.the-variants.{Accepted}
 use Rattle.image.proofs.Promises.{judged-sound}
 use Rattle.image.proofs.Sounds.{accepted}
-use Rattle.answers.specs.declared.Totals.{Totals}
 use Rattle.answers.specs.declared.Answer.{Answer}
-use Rattle.answers.specs.declared.Answer.the-variants.{Given, Refused as NotGiven}
 use Rattle.answers.specs.Promise.{Equal}
 
 module _ (s : List ℕ) (k : Outline) (before : List ℕ) where

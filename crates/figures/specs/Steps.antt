@@ -17,7 +17,7 @@ use Rattle.bytes.specs.Bytes.{byteAt}
 use Rattle.rows.specs.Fields.{lengthAt, bodyAt}
 use Rattle.image.specs.Tasks.{startsOf, taskOf}
 use Rattle.schedule.specs.Said.{said}
-use Rattle.image.specs.Promise.{Sound}
+use Rattle.image.specs.Walks.{Sound}
 use Rattle.image.specs.declared.Outline.{Outline}
 use Rattle.image.specs.declared.Walk.{Walk}
 use Rattle.times.specs.Arrays.{tableOf}

@@ -12,7 +12,8 @@ use Rattle.runs.proofs.Meanings.{row-at}
 use Rattle.rows.specs.Fields.{fieldAt}
 use Rattle.image.specs.Tasks.{nodePlaces}
 use Rattle.image.specs.Judged.{scan, wholeOf, judged}
-use Rattle.image.specs.Promise.{Sound, Judging}
+use Rattle.image.specs.Promise.{Judging}
+use Rattle.image.specs.Walks.{Sound}
 use Rattle.nodes.specs.Fine.{Placed}
 use Rattle.image.specs.declared.Refusal.{Refusal}
 use Rattle.image.specs.declared.fields.End.the-variants.{Stopped, Whole}

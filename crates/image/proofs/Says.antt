@@ -1,6 +1,6 @@
 -- What a field, a scan and a verdict say: at each test either the condition of a row of the table holds, or judging goes on.
 use mathlib.Core.Path.{_≡_, refl, sym, subst}
-use mathlib.Core.Bool.{Bool, true, false, cond, not}
+use mathlib.Core.Bool.{cond, not}
 use mathlib.Core.List.{List}
 use Prim.Native.Nat.{ℕ, zero, suc, _+_, _-_, _*_, _≤_, _<_}
 use native.Mathlib.Omega.{arith}
@@ -23,16 +23,9 @@ use Rattle.image.specs.declared.fields.End.{End}
 use Rattle.image.specs.declared.fields.End.the-variants.{Stopped, Whole}
 use Rattle.image.specs.declared.Verdict.{Verdict}
 use Rattle.image.specs.declared.Verdict.the-variants.{Accepted, Refused}
+use Rattle.runs.proofs.Cases.{either, by-cond}
 use Rattle.rows.proofs.Rules.{fails, tag-here, length-here, value-here, child-here}
 use Rattle.rows.proofs.Standing.{next-at, first-at, few, inside, passed-more}
-
-by-cond : {A : Type 0} (P : A → Type 0) (b : Bool) (x y : A) → (b ≡ true → P x) → (b ≡ false → P y) → P (cond b x y)
-by-cond P true x y f g = f refl
-by-cond P false x y f g = g refl
-
-by-test : {A : Type 0} (b : Bool) → (b ≡ true → A) → (b ≡ false → A) → A
-by-test true f g = f refl
-by-test false f g = g refl
 
 module _ (s : List ℕ) where
   -- of the field with k fields before it
@@ -60,26 +53,26 @@ module _ (s : List ℕ) where
       let t = tagAt s k in
       let w = lengthAt s k in
       let b = bodyAt s k in
-      by-test (ltb (length s - at) 3)
+      either (ltb (length s - at) 3)
       (λ e. judged-as k (Bad Cut) (rw e) (head-cut k p l (omega (arith, ltb-true (length s - at) 3 e))))
       (λ e1. let h : at + 3 ≤ length s = omega (arith, ltb-false (length s - at) 3 e1) in
-      by-test (not (tagOk k t))
+      either (not (tagOk k t))
       (λ e. judged-as k (Bad Tag) (rw (e1, e)) (wrong-tag k p h (fails _ (tag-here s k) (not-true _ e))))
       (λ e2. let u : UpToTag s k = (h, tag-here s k .holds (not-false _ e2)) in
-      by-test (leb 258 k)
+      either (leb 258 k)
       (λ e. judged-as k (Bad Full) (rw (e1, e2, e)) (full k p u (leb-true 258 k e)))
       (λ e3. let r = leb-false 258 k e3 in
-      by-test (not (lengthOk t w))
+      either (not (lengthOk t w))
       (λ e. judged-as k (Bad Length) (rw (e1, e2, e3, e)) (wrong-length k p (u, r) (fails _ (length-here s k) (not-true _ e))))
       (λ e4. let n = length-here s k .holds (not-false _ e4) in
       let d = value-here s k ((u, r), n) in
-      by-test (ltb (length s - at - 3) w)
+      either (ltb (length s - at - 3) w)
       (λ e. judged-as k (Bad Cut) (rw (e1, e2, e3, e4, e)) (body-cut k p ((u, r), n) (omega (arith, ltb-true (length s - at - 3) w e))))
       (λ e5. let i : b + w ≤ length s = omega (arith, ltb-false (length s - at - 3) w e5) in
-      by-test (not (valueOk s t b w))
+      either (not (valueOk s t b w))
       (λ e. judged-as k (Bad Value) (rw (e1, e2, e3, e4, e5, e)) (wrong-value k p (((u, r), n), i) (fails _ d (not-true _ e))))
       (λ e6. let v : UpToValue s k = ((((u, r), n), i), d .holds (not-false _ e6)) in
-      by-test (not (childrenOk s t b w k))
+      either (not (childrenOk s t b w k))
       (λ e. judged-as k (Bad Forward) (rw (e1, e2, e3, e4, e5, e6, e)) (not-below k p v (fails _ (child-here s k) (not-true _ e))))
       (λ e7. judged-as k (Good (b + w)) (rw (e1, e2, e3, e4, e5, e6, e7)) ((v, child-here s k .holds (not-false _ e7)), sym (next-at s k)))))))))
     where

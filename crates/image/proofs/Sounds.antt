@@ -19,7 +19,7 @@ use Rattle.image.specs.Judged.{judged}
 use Rattle.rows.specs.Rules.{Starts}
 use Rattle.image.specs.Conditions.{Accepting}
 use Rattle.nodes.specs.Fine.{Fine, Standing}
-use Rattle.image.specs.Promise.{Sound}
+use Rattle.image.specs.Walks.{Sound}
 use Rattle.nodes.specs.declared.Node.{Node}
 use Rattle.nodes.specs.declared.Node.the-variants.{Plain, Bus as Block, Once, Sequence, Branch, Loop}
 use Rattle.image.specs.declared.Outline.{Outline}
@@ -97,7 +97,7 @@ accepted s t e =
       ranges = λ n l. range-at s n (node-kept s t a n (omega (arith, a .last)));
     }
 
--- node k of a sound task stands at its place, so `tree-here` and `fine-here` of proofs/Levels.antt say what it is
+-- node k of a sound task stands at its place, so `tree-here` and `fine-here` of crate nodes say what it is
 pub standing : (s : List ℕ) (t : Outline) (places : List ℕ) → Sound s t places → (k : ℕ) → k < t .nodes → Standing s k (getD places k 0)
 standing s t places h k l = record { passed = fewer s (k + 3) (t .nodes + 2) (omega arith) (h .accepting .complete .passed); place = h .placed k l }
 

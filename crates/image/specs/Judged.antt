@@ -1,7 +1,6 @@
 -- The verdict on an image (document 01, "When no figure is given"): fields from the front, then 7, 8, 9 and 18. Definitions only.
-use mathlib.Core.Bool.{cond}
+use mathlib.Core.Bool.{cond, not}
 use mathlib.Core.List.{List}
-use mathlib.Core.Bool.{not}
 use Prim.Native.Nat.{ℕ, zero, suc, _+_, _-_, _*_}
 use Prim.Native.String.{String}
 use lib.ListN.{length}

@@ -1,9 +1,9 @@
 // image: judging a task image (document 01, 'The task image' and 'When no figure is given').
 //
 // `judge` takes any bytes, has no `requires` and promises `Judging` of specs/Promise.antt: the verdict is the one that the
-// definition `judged` names, in the document's numbers and places too; an image is refused for a reason at a place if and only if the
-// condition of that row of the table holds there; and an accepted image keeps every rule of its rows, with the place of each node
-// beside the verdict. For a refused image the places are left free.
+// definition `judged` names; an image is refused for a reason at a place if and only if the condition of that row of the table holds
+// there; and of an accepted image every field keeps the rules of its row, the outline is what they say, and beside the verdict stand the
+// places of its nodes. For a refused image the places are left free. `number` gives the document's number of a refusal.
 //
 // specs/ has the definitions, in the document's order: Tasks (the task that an image's bytes say), Judged (a field, the scan, 7 to 9 and 18, and the
 // verdict), Conditions (the table, row by row), Promise; Inner is between functions of this crate. The rows' rules are in crate rows, what a node field means
@@ -45,7 +45,7 @@ pub enum Refusal {
     Block,
 }
 
-// An accepted image: the period of the bus, the number of start offsets in field 2, the number of lines and of sets of
+// The outline of an accepted image: the period of the bus, the number of start offsets in field 2, the number of lines and of sets of
 // lines, the number of nodes, and the last of them.
 pub struct Outline {
     pub period: usize,

@@ -38,7 +38,7 @@ use Rattle.graph.specs.Promise.{Equal as FinishesEqual}
 use Rattle.graph.proofs.Tables.{answer-given, finishes-length}
 use Rattle.graph.proofs.Promises.{finishing}
 use Rattle.lent.specs.Answers.{doneInto, refusedInto, beside}
-use Rattle.linked.specs.Linked.{judgedInto, judgeCall, figuresInto, toldCall, figuresCall, WholeFigures, changedInto, editCall, WholeEdit, previewCall, WholePreview, finishesInto, finishesCall, WholeFinishes}
+use Rattle.linked.specs.Linked.{judgedInto, judgeCall, figuresInto, answerCall, figuresCall, WholeFigures, changedInto, editCall, WholeEdit, previewCall, WholePreview, finishesInto, finishesCall, WholeFinishes}
 
 -- ---- the first places of a slice
 
@@ -86,13 +86,13 @@ module _ (lent : List ℕ) (a : Answer) where
   told-refused r place call g h = ap (λ (x : Answer). figuresInto (resultOf x) lent) g ∙ h
 
 module _ (result : Result) (filled table lent : List ℕ) where
-  pub told-short : length lent < 3 → toldCall result filled table lent ≡ (2, table, lent)
-  unfolding toldCall
+  pub told-short : length lent < 3 → answerCall result filled table lent ≡ (2, table, lent)
+  unfolding answerCall
   told-short h = rw (lt-ltb (length lent) 3 h)
 
   pub told-call : 3 ≤ length lent → (a : Answer) (after : List ℕ) → resultOf a ≡ result → after ≡ filled → (status : ℕ) (found : List ℕ)
-      → figuresInto (resultOf a) lent ≡ (status, found) → toldCall result filled table lent ≡ (status, after, found)
-  unfolding toldCall
+      → figuresInto (resultOf a) lent ≡ (status, found) → answerCall result filled table lent ≡ (status, after, found)
+  unfolding answerCall
   told-call long a after e h status found t =
       rw (le-ltb (length lent) 3 long, h, ← e) (ap (beside filled) t)
 
@@ -101,7 +101,7 @@ module _ (result : Result) (filled table lent : List ℕ) where
 -- what the program finds of an accepted image
 pub whole-figures : (s before lent : List ℕ) (status : ℕ) (table said : List ℕ) → figuresCall s before lent ≡ (status, table, said)
     → WholeFigures s before lent status table said
-unfolding toldCall
+unfolding answerCall
 whole-figures s before lent status table said is k e room long =
     let enough = le-ltb (length before) (k .period) (omega (arith, room)) in
     let q = rw (le-ltb (length lent) 3 (omega (arith, long)), e, enough) at is in
@@ -152,7 +152,7 @@ module _ (s : List ℕ) (node lo hi : ℕ) (before lent : List ℕ) where
   fresh : Editable s node lo hi → figuresCall (imageWith s node lo hi) before lent ≡ previewCall s node lo hi before lent
   fresh d =
       let p = preview-is s node lo hi d before in
-      ap₂ (λ (r : Result) (t : List ℕ). toldCall r t before lent) (sym (p .0)) (sym (p .1))
+      ap₂ (λ (r : Result) (t : List ℕ). answerCall r t before lent) (sym (p .0)) (sym (p .1))
 
   whole-preview : (status : ℕ) (table said : List ℕ) → previewCall s node lo hi before lent ≡ (status, table, said)
       → (status ≡ 0 → (d : Editable s node lo hi) × (d .outline .period ≤ length before) × (3 ≤ length lent))

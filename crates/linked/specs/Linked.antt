@@ -39,12 +39,12 @@ figuresInto (given tight published exits) lent = (0, tight ∷ published ∷ exi
 figuresInto (refused number place) lent = refusedInto number place lent
 
 -- a call for figures, whose table at exit is `filled`
-unfoldable pub toldCall : Result → List ℕ → List ℕ → List ℕ → ℕ × List ℕ × List ℕ
-toldCall result filled table lent = cond (ltb (length lent) 3) (2, table, lent) (beside filled (figuresInto result lent))
+unfoldable pub answerCall : Result → List ℕ → List ℕ → List ℕ → ℕ × List ℕ × List ℕ
+answerCall result filled table lent = cond (ltb (length lent) 3) (2, table, lent) (beside filled (figuresInto result lent))
 
 -- the status, the table and the answer at exit
 abbrev pub figuresCall : List ℕ → List ℕ → List ℕ → ℕ × List ℕ × List ℕ
-figuresCall image table lent = toldCall (answer image table) (tableAfter image table) table lent
+figuresCall image table lent = answerCall (answer image table) (tableAfter image table) table lent
 
 -- an accepted image with places enough is given figures, and demand 3 holds of the numbers that the program finds
 abbrev pub WholeFigures : List ℕ → List ℕ → List ℕ → ℕ → List ℕ → List ℕ → Type 0
@@ -69,7 +69,7 @@ pub record WholeEdit (image : List ℕ) (node lowest highest : ℕ) (lent : List
 -- a preview: the status, the table and the answer at exit, as of figures
 abbrev pub previewCall : List ℕ → ℕ → ℕ → ℕ → List ℕ → List ℕ → ℕ × List ℕ × List ℕ
 previewCall image node lowest highest table lent =
-    toldCall (previewOf image node lowest highest table) (previewTable image node lowest highest table) table lent
+    answerCall (previewOf image node lowest highest table) (previewTable image node lowest highest table) table lent
 
 -- status 0 if and only if the edit is possible and there are places enough; then demand 3 holds of the edited image and the numbers that the
 -- program finds. Whatever the places, a possible edit's preview leaves what the figures of the edited image would

@@ -1,4 +1,4 @@
--- Lists of bytes and of child numbers that stand in an image: the first and the rest, from any index on; and what holds of each.
+-- Child numbers that stand in an image, the first and the rest, from any index on, and what holds of each; start offsets, one by one.
 use mathlib.Core.Path.{_≡_, refl, _∙_, ap}
 use mathlib.Core.Bool.{Bool, true, false, _||_}
 use mathlib.Core.List.{List, [], _∷_}
@@ -10,6 +10,7 @@ use borrow.Author.Tests.{eq-eqb}
 use Rattle.runs.specs.Nodes.{All}
 use Rattle.runs.specs.Runs.{isStart}
 use Rattle.bytes.specs.Bytes.{byteAt, wordAt, bytes, words}
+use Rattle.schedule.proofs.Numbers.{or-true}
 
 module _ (s : List ℕ) (p n i : ℕ) where
   -- child number i, and those after it
@@ -23,18 +24,6 @@ module _ (s : List ℕ) (p n i : ℕ) where
   pub words-none : n ≤ i → words s (p + 2 * i) (n - i) ≡ []
   unfolding words
   words-none h = let e : n - i ≡ 0 = omega arith in rw e
-
-  -- byte i, and those after it
-  pub bytes-step : i < n → bytes s (p + i) (n - i) ≡ byteAt s (p + i) ∷ bytes s (p + (i + 1)) (n - (i + 1))
-  unfolding bytes
-  bytes-step h =
-      let e : n - i ≡ suc (n - (i + 1)) = omega arith in
-      let q : p + i + 1 ≡ p + (i + 1) = omega arith in
-      rw (e, q)
-
-  pub bytes-none : n ≤ i → bytes s (p + i) (n - i) ≡ []
-  unfolding bytes
-  bytes-none h = let e : n - i ≡ 0 = omega arith in rw e
 
 -- what holds of each child number holds of all
 pub all-words : (Q : ℕ → Type 0) (s : List ℕ) (p n : ℕ) → ((i : ℕ) → i < n → Q (wordAt s (p + 2 * i))) → All Q (words s p n)
@@ -60,10 +49,6 @@ is-listed s p (suc n) zero h = rw (add-zero p, eq-eqb (byteAt s p) (byteAt s p) 
 is-listed s p (suc n) (suc i) h =
     let q : p + suc i ≡ p + 1 + i = omega arith in
     rw q (or-true (eqb (byteAt s p) (byteAt s (p + 1 + i))) _ (is-listed s (p + 1) n i (omega arith)))
-  where
-    or-true : (a b : Bool) → b ≡ true → (a || b) ≡ true
-    or-true true b e = refl
-    or-true false b e = e
 
 -- one byte more at the end of the list
 pub listed-more : (s : List ℕ) (p n o : ℕ) → isStart (bytes s p (n + 1)) o ≡ (isStart (bytes s p n) o || eqb (byteAt s (p + n)) o)

@@ -8,10 +8,6 @@ use Rattle.rows.specs.Fields.{fieldAt, Passed}
 use Rattle.rows.specs.Rules.{Durations, Accesses, LoopCounts, Fetches, NamesBelow}
 use Rattle.nodes.specs.declared.Node.{Node}
 use Rattle.nodes.specs.declared.Node.the-variants.{Plain, Bus as Block, Once, Sequence, Branch, Loop}
-use mathlib.Core.Path.{_≡_}
-use mathlib.Core.List.{List}
-use Prim.Native.Nat.{ℕ, _+_, _*_, _≤_, _<_}
-use lib.ListN.{length, getD}
 
 -- the rules of rows 3 to 7 and 10, of the node with the number `own`
 unfoldable pub Fine : List ℕ → ℕ → Node → Type 0

@@ -32,7 +32,7 @@ pub record Previewing (s : List ℕ) (node lowest highest : ℕ) (before : List 
   pub whenever : (x : Refusal) (place : ℕ) → PreviewCondition s node lowest highest before x place → r ≡ NotGiven x place
   pub possible : (f : Totals) → r ≡ Given f → (e : Editable s node lowest highest) × (e .outline .period ≤ length before)
 
--- figures are given, and demands 3 and 2 hold of them and of the task k that the image s says
+-- figures are given, and demands 3 and 2 hold of them and of the task that the image s says, whose outline is k
 pub record Foreseen (s : List ℕ) (k : Outline) (r : Answer) (after : List ℕ) : Type 0 where
   pub totals : Totals
   pub given : r ≡ Given totals

@@ -1,5 +1,5 @@
--- What a field says depends on its own bytes, and on the bus: where two images agree on these, wherever the field stands in each, the row's rules and
--- the node are the same.
+-- What a field says depends on its own bytes, and on the bus: where two images agree on these, wherever the field stands in each, the row's tests are the same
+-- (its node too: proofs/Reading.antt of crate nodes).
 use mathlib.Core.Path.{_≡_, refl, ap}
 use mathlib.Core.Bool.{Bool, true, false, cond, _&&_}
 use mathlib.Core.List.{List}

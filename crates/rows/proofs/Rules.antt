@@ -1,4 +1,4 @@
--- The tests of specs/Fields.antt are true if and only if the rules of specs/Rules.antt hold, row by row.
+-- The tests of specs/Tests.antt are true if and only if the rules of specs/Rules.antt hold, row by row.
 use mathlib.Core.Path.{_≡_, refl}
 use mathlib.Core.Bool.{Bool, true, false, cond, _&&_}
 use mathlib.Core.Logic.{inl, inr, ⊎-elim}
@@ -12,6 +12,7 @@ use Rattle.bytes.specs.Bytes.{byteAt}
 use Rattle.schedule.specs.Said.{within, said}
 use Rattle.schedule.proofs.Sayings.{ranges-kept, kept-ranges, schedule-kept, kept-schedule}
 use Rattle.schedule.proofs.Pairs.{turns-length}
+use Rattle.runs.proofs.Cases.{by-cond}
 use Rattle.schedule.proofs.Numbers.{eq-or-ne, both, is-within}
 use Rattle.rows.specs.Rules.{TagRule, LengthRule, Durations, Accesses, LoopCounts, Fetches, ValueRule, ChildRule}
 use Rattle.rows.specs.Fields.{fieldAt, tagAt, lengthAt, bodyAt, UpToLength, GoodField}
@@ -37,12 +38,10 @@ carries d f e r = f .holds (rw (← e) (d .passes r))
 
 -- a row of a table of tests: the tag's own, or those after it
 row : {R : Type 0} (b x y : Bool) → (b ≡ true → x ≡ true → R) → (b ≡ false → y ≡ true → R) → cond b x y ≡ true → R
-row true x y f g e = f refl e
-row false x y f g e = g refl e
+row {R} b x y f g = by-cond (λ (z : Bool). z ≡ true → R) b x y f g
 
 rows : (b x y : Bool) → (b ≡ true → x ≡ true) → (b ≡ false → y ≡ true) → cond b x y ≡ true
-rows true x y f g = f refl
-rows false x y f g = g refl
+rows b x y f g = by-cond (λ (z : Bool). z ≡ true) b x y f g
 
 none : {R : Type 0} → false ≡ true → R
 none e = absurd (let z : _≡_ {A = ℕ} 0 1 = cc in omega arith)

@@ -1,6 +1,6 @@
 -- The rules of the rows: the table in "The task image" of document 01, and the rows that document 02 adds (9 of W5, 10 of W9), in plain terms.
--- Numbers 2, 4, 5 and 6 say which rule a field breaks (specs/Conditions.antt); that the tests of specs/Fields.antt are true if and only if these rules
--- hold is proofs/Rules.antt. Definitions only.
+-- Numbers 2, 4, 5 and 6 say which rule a field breaks (specs/Conditions.antt of crate image); that the tests of specs/Tests.antt are true if and only if
+-- these rules hold is proofs/Rules.antt. Definitions only.
 use mathlib.Core.Path.{_≡_}
 use mathlib.Core.Logic.{_⊎_}
 use mathlib.Core.List.{List}
@@ -18,11 +18,11 @@ pub data TagRule (index tag : ℕ) : Type 0 where
   node : 2 ≤ index → 3 ≤ tag → tag ≤ 7 → TagRule index tag
   once : 2 ≤ index → tag ≡ 10 → TagRule index tag
 
-abbrev pub Even : ℕ → Type 0
-Even n = (m : ℕ) × (n ≡ 2 * m)
+abbrev pub IsEven : ℕ → Type 0
+IsEven n = (m : ℕ) × (n ≡ 2 * m)
 
-abbrev pub Odd : ℕ → Type 0
-Odd n = (m : ℕ) × (n ≡ 1 + 2 * m)
+abbrev pub IsOdd : ℕ → Type 0
+IsOdd n = (m : ℕ) × (n ≡ 1 + 2 * m)
 
 -- 4: "Body length", row by row
 pub data LengthRule (tag n : ℕ) : Type 0 where
@@ -30,10 +30,10 @@ pub data LengthRule (tag n : ℕ) : Type 0 where
   starts : tag ≡ 2 → 1 ≤ n → n ≤ 256 → LengthRule tag n
   plain : tag ≡ 3 → n ≡ 4 → LengthRule tag n
   block : tag ≡ 4 → n ≡ 3 → LengthRule tag n
-  sequence : tag ≡ 5 → 2 ≤ n → n ≤ 32 → Even n → LengthRule tag n
-  branch : tag ≡ 6 → 4 ≤ n → n ≤ 16 → Even n → LengthRule tag n
+  sequence : tag ≡ 5 → 2 ≤ n → n ≤ 32 → IsEven n → LengthRule tag n
+  branch : tag ≡ 6 → 4 ≤ n → n ≤ 16 → IsEven n → LengthRule tag n
   loop : tag ≡ 7 → n ≡ 6 → LengthRule tag n
-  schedule : tag ≡ 9 → 3 ≤ n → n ≤ 65 → Odd n → LengthRule tag n
+  schedule : tag ≡ 9 → 3 ≤ n → n ≤ 65 → IsOdd n → LengthRule tag n
   once : tag ≡ 10 → n ≡ 5 → LengthRule tag n
 
 -- row 2: "start offsets, one byte each, strictly ascending, each below P": n of them from a place on

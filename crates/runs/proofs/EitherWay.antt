@@ -1,5 +1,5 @@
 -- Two tasks that differ in the bus alone, and in that only in how it is written, have the same times, figures and exits (document 02, W5; of images
--- crates/figures/proofs/EitherWay.antt says it).
+-- crates/answers/proofs/EitherWay.antt says it).
 use mathlib.Core.Path.{_≡_, ap₂}
 use mathlib.Core.List.{List}
 use mathlib.Core.Option.{none}

@@ -1,6 +1,6 @@
 -- Orders and products of numbers, by cases, and tests that are conjunctions.
 use mathlib.Core.Path.{_≡_, refl}
-use mathlib.Core.Bool.{Bool, true, false, _&&_}
+use mathlib.Core.Bool.{Bool, true, false, _&&_, _||_}
 use mathlib.Core.Logic.{_⊎_, inl, inr}
 use Prim.Native.Nat.{ℕ, _*_, _≤_}
 use native.Mathlib.Nat.{mul-le-mul}
@@ -26,6 +26,10 @@ eq-or-ne a b = eq-by a b (eqb a b) refl
 pub both : (a b : Bool) → (a && b) ≡ true → (a ≡ true) × (b ≡ true)
 both true b e = (refl, e)
 both false b e = absurd (let z : _≡_ {A = ℕ} 0 1 = cc in omega arith)
+
+pub or-true : (a b : Bool) → b ≡ true → (a || b) ≡ true
+or-true true b e = refl
+or-true false b e = e
 
 pub is-within : (low high n : ℕ) → within low high n ≡ true → (low ≤ n) × (n ≤ high)
 is-within low high n e = let p = both (leb low n) (leb n high) e in (leb-true low n (p .0), leb-true n high (p .1))

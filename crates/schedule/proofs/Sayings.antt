@@ -1,6 +1,6 @@
 -- What field 1 says, by its tag: the period, the longest access, and a bus of which the laws hold.
 use mathlib.Core.Path.{_≡_, refl, sym, _∙_, ap, subst}
-use mathlib.Core.Bool.{Bool, true, false, cond, _&&_, _||_}
+use mathlib.Core.Bool.{true, cond, _&&_}
 use mathlib.Core.Logic.{_⊎_, inl, inr, ⊎-elim}
 use mathlib.Core.List.{List, [], _∷_}
 use Prim.Native.Nat.{ℕ, _+_, _-_, _*_, _%_, _≤_, _<_}
@@ -18,10 +18,10 @@ use Rattle.bus.specs.declared.Slots.{Slots}
 use Rattle.bus.specs.declared.Bus.{Bus as OwnedBus}
 use Rattle.bus.specs.Owning.{busMeant, Slotted}
 use Rattle.bus.proofs.EqualSlots.{slotted-bus}
-use Rattle.bus.proofs.Ranges.{slots-sound}
+use Rattle.bus.proofs.Ranges.{has-slot}
 use Rattle.bytes.specs.Bytes.{byteAt}
 use Rattle.schedule.specs.Said.{within, busOk, slotsAt, scheduleAt, turnsOk, hasPair, scheduleOk, said, Turns, HasPair, Scheduled, Ranged, slots, turns}
-use Rattle.schedule.proofs.Numbers.{eq-or-ne, both, is-within}
+use Rattle.schedule.proofs.Numbers.{eq-or-ne, both, or-true, is-within}
 
 -- ---- by the tag
 
@@ -63,7 +63,7 @@ module _ (s : List ℕ) where
   pub slots-same : Ranged s → byteAt s 0 ≡ 1 → (b : OwnedBus) → Slotted (slotsAt s) b → SameBus (busMeant b) (said s)
   slots-same r e b x =
       let h = slots-ranged r (λ q. omega (arith, e, q)) in
-      rw (said-slots e) (slotted-bus (slotsAt s) (slots-sound _ h) (h .cores-least) b x)
+      rw (said-slots e) (slotted-bus (slotsAt s) (has-slot _ h) (h .cores-least) b x)
 
 -- ---- the rules, from the tests
 
@@ -129,10 +129,6 @@ unfolding hasPair HasPair
 kept-named c [] n = absurd n
 kept-named c (x ∷ xs) (inl e) = simp (eq-eqb (x .core) c e)
 kept-named c (x ∷ xs) (inr n) = or-true (eqb (x .core) c) (hasPair c xs) (kept-named c xs n)
-  where
-    or-true : (a b : Bool) → b ≡ true → (a || b) ≡ true
-    or-true true b e = refl
-    or-true false b e = e
 
 pub kept-schedule : (v : Schedule) → Scheduled v → scheduleOk v ≡ true
 unfolding scheduleOk
@@ -157,7 +153,7 @@ period-pos v h = let (o, l, e) = named-owns (v .core) (v .turns) (h .turns) (h .
 
 module _ (s : List ℕ) where
   pub said-lawful : Ranged s → Lawful (said s)
-  said-lawful (slots e r) = rw (said-slots s e) (equal-lawful (slotsAt s) (slots-sound _ r))
+  said-lawful (slots e r) = rw (said-slots s e) (equal-lawful (slotsAt s) (has-slot _ r))
   said-lawful (turns e h) = rw (said-turns s e) (owning-lawful (total (scheduleAt s .turns)) (owns (scheduleAt s .core) (scheduleAt s .turns)) (period-pos (scheduleAt s) h))
 
   pub said-small : Ranged s → (said s .period ≤ 256) × (said s .most ≤ 256)

@@ -14,7 +14,7 @@ use Rattle.runs.specs.Schedules.{Turn, Schedule, turnsFrom, even, unequalSlots}
 use Rattle.runs.proofs.EvenSchedules.{total-even, either-way}
 use Rattle.bus.specs.Waits.{slotsOf, Ranges}
 use Rattle.bus.specs.declared.Slots.{Slots}
-use Rattle.bus.proofs.Ranges.{slots-sound}
+use Rattle.bus.proofs.Ranges.{has-slot}
 use Rattle.bytes.specs.Bytes.{byteAt, wordAt}
 use Rattle.bytes.proofs.Agreeing.{Agree, agree-part, agree-here, agree-word, behind}
 use Rattle.schedule.specs.Said.{turnsAt, scheduleAt, turnsOk, hasPair, scheduleOk, said}
@@ -107,4 +107,4 @@ module _ (v : Slots) (h : Ranges v) where
   )
 
   pub even-same : SameBus (unequalSlots evenly) (equalSlots (slotsOf v))
-  even-same = either-way (slotsOf v) (slots-sound v h) (h .cores-least)
+  even-same = either-way (slotsOf v) (has-slot v h) (h .cores-least)

@@ -55,16 +55,19 @@ scheduleOk v = turnsOk (v .turns) && (leb (total (v .turns)) 256 && hasPair (v .
 unfoldable pub said : List ℕ → Bus
 said s = cond (eqb (byteAt s 0) 9) (unequalSlots (scheduleAt s)) (equalSlots (slotsAt s))
 
--- ---- the same rules of an accepted image, not as tests
+-- ---- the same rules, not as tests
 
+-- "core (0 to 15) and slot length (1 to 128)", of each pair
 unfoldable pub Turns : List Turn → Type 0
 Turns [] = Unit {0}
 Turns (x ∷ xs) = (x .core ≤ 15) × (1 ≤ x .length) × (x .length ≤ 128) × Turns xs
 
+-- "the analysed core has at least one pair"
 unfoldable pub HasPair : ℕ → List Turn → Type 0
 HasPair c [] = ⊥
 HasPair c (x ∷ xs) = (x .core ≡ c) ⊎ HasPair c xs
 
+-- row 9: "1 to 32 pairs", and "The period is the sum, at most 256"
 pub record Scheduled (v : Schedule) : Type 0 where
   pub turns : Turns (v .turns)
   pub few : length (v .turns) ≤ 32

@@ -4,7 +4,7 @@ use native.Mathlib.Omega.{arith}
 use Prim.Native.Nat.{ℕ, _+_, _-_, _*_, _^_, _<_}
 use Rattle.offsets.specs.Sets.{turnedBy}
 use Rattle.bus.specs.Waits.{slotsOf}
-use Rattle.bus.proofs.Ranges.{slots-sound, within}
+use Rattle.bus.proofs.Ranges.{has-slot, within}
 use Rattle.bus.proofs.EqualSlots.{ones-in, fit, slotted}
 use Rattle.bus.proofs.equal_slots.Statement.{statement}
 use Rattle.bus.proofs.equal_slots.Tie as tie
@@ -61,7 +61,7 @@ returns : tie.Need-returns
 returns c =
     let s = c .before .before .before .before .before .before .before .before .before in
     let v = s .args .v in
-    let ok = slots-sound v (s .pre) in
+    let ok = has-slot v (s .pre) in
     let own = c .before .before .before .before .before .turn .ensures ∙ ap (λ (n : ℕ). turnedBy (v .cores * v .slot) (v .core * v .slot) n) (c .before .before .before .before .before .before .below .ensures) in
     let rest = c .before .turn2 .ensures ∙ ap (λ (n : ℕ). turnedBy (v .cores * v .slot) (v .core * v .slot + v .slot) n) (c .before .before .before .below2 .ensures) in (
       fit (slotsOf v) ok (s .pre .cores-least) (s .pre .period-most) _ _ own rest _ _ refl refl refl refl,

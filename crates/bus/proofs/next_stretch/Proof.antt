@@ -19,7 +19,7 @@ step : (s : tie.Start)
 step s =
     let b = s .args .b in
     let (lt, is-x, is-len) = s .pre .2 in
-    let (gap, n) = s .pre .0 .listed (s .pre .1) .next (s .args .i) lt in (
+    let (gap, n) = s .pre .0 .in-turn (s .pre .1) .next (s .args .i) lt in (
       gap,
       subst (λ (x : ℕ). NextStretch (b .period) (owns b) x (s .args .len) gap (beginOf (b .stretches) (after (b .stretches .count) (s .args .i)))) is-x
           (subst (λ (len : ℕ). NextStretch (b .period) (owns b) (beginOf (b .stretches) (s .args .i)) len gap (beginOf (b .stretches) (after (b .stretches .count) (s .args .i)))) is-len n),
@@ -45,16 +45,16 @@ at-next c = ap (beginOf (c .before .before .args .b .stretches)) (number c)
 inside : (c : tie.Joined1) → c .if1 .n < 16
 inside c =
     let s = c .before .before in
-    omega (arith, number c, after-in (s .args .b .stretches .count) (s .args .i) (s .pre .2 .0), s .pre .0 .listed (s .pre .1) .few)
+    omega (arith, number c, after-in (s .args .b .stretches .count) (s .args .i) (s .pre .2 .0), s .pre .0 .in-turn (s .pre .1) .few)
 
 add-if1 : tie.Need-add-if1
-add-if1 c = omega (arith, c .before .pre .2 .0, c .before .pre .0 .listed (c .before .pre .1) .few)
+add-if1 c = omega (arith, c .before .pre .2 .0, c .before .pre .0 .in-turn (c .before .pre .1) .few)
 
 add-n : tie.Need-add-n
-add-n c = omega (arith, c .before .before .pre .2 .0, c .before .before .pre .0 .listed (c .before .before .pre .1) .few)
+add-n c = omega (arith, c .before .before .pre .2 .0, c .before .before .pre .0 .in-turn (c .before .before .pre .1) .few)
 
 element-copy-out-at : tie.Need-element-copy-out-at
-element-copy-out-at c = omega (arith, inside c, c .before .before .pre .0 .listed (c .before .before .pre .1) .begins-long)
+element-copy-out-at c = omega (arith, inside c, c .before .before .pre .0 .in-turn (c .before .before .pre .1) .begins-long)
 
 cast-at : tie.Need-cast-at
 cast-at c = search needs
@@ -79,7 +79,7 @@ sub-gap c =
 element-copy-out-t16 : tie.Need-element-copy-out-t16
 element-copy-out-t16 c =
     let s = c .before .before .before .before in
-    omega (arith, inside (c .before .before), s .pre .0 .listed (s .pre .1) .lengths-long)
+    omega (arith, inside (c .before .before), s .pre .0 .in-turn (s .pre .1) .lengths-long)
 
 cast-t10 : tie.Need-cast-t10
 cast-t10 c = search needs
@@ -95,7 +95,7 @@ returns c =
     let P = b .period in
     let (gap, n) = step s in
     let lt = after-in (v .count) (s .args .i) (s .pre .2 .0) in
-    let (gap', n') = s .pre .0 .listed (s .pre .1) .next (after (v .count) (s .args .i)) lt in
+    let (gap', n') = s .pre .0 .in-turn (s .pre .1) .next (after (v .count) (s .args .i)) lt in
     let is : c .before .if2 .gap ≡ gap =
     ⊎-elim
     (λ w. w .1 ∙ ap (λ (k : ℕ). k - (x + len)) (at-next j) ∙ sym (gap-on P (owns b) x len gap _ n (omega (arith, at-next j, w .0 .taken))))

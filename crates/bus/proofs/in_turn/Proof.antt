@@ -7,8 +7,8 @@ use Rattle.offsets.specs.Sets.{value, has, members}
 use Rattle.bus.specs.Stretches.{Ordered}
 use Rattle.bus.proofs.Listing.{members-none, members-room, members-next, lowest-in, lowest-on, ahead-less, ordered-none, ordered-more, ordered-end}
 use borrow.Author.Needs.{needs}
-use Rattle.bus.proofs.listed.Statement.{statement}
-use Rattle.bus.proofs.listed.Tie as tie
+use Rattle.bus.proofs.in_turn.Statement.{statement}
+use Rattle.bus.proofs.in_turn.Tie as tie
 
 abbrev Inv-loop : tie.InvT-loop
 Inv-loop rest s first period begins₀ lengths₀ count₀ a₀ begins lengths count a =
@@ -89,8 +89,8 @@ returns c =
     let l = c .before .loop in
     ordered-end (s .args .period) (value (s .args .rest)) (value (s .args .s)) (s .args .first) _ _ (l .count) (l .a) (l .inv .2) (omega (arith, c .loop-test .left))
 
-pub listed-spec : {M : Type 1} → statement M
-listed-spec =
+pub in-turn-spec : {M : Type 1} → statement M
+in-turn-spec =
     tie.close
     (tie.spec
     Inv-loop
