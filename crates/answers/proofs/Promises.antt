@@ -13,7 +13,7 @@ use Rattle.runs.specs.Figures.{entryOf, tight, published, exitCount}
 use Rattle.runs.proofs.Whole.{whole-exact}
 use Rattle.image.specs.Tasks.{taskOf}
 use Rattle.image.specs.Judged.{judged}
-use Rattle.image.specs.declared.Refusal.{Refusal}
+use Rattle.refusals.specs.declared.Refusal.{Refusal}
 use Rattle.image.specs.declared.Outline.{Outline}
 use Rattle.image.specs.declared.Verdict.the-variants.{Accepted, Refused}
 use Rattle.image.proofs.Reasons.{when-accepted}

@@ -10,8 +10,9 @@ use Rattle.runs.specs.Runs.{Task}
 use Rattle.runs.specs.Carried.{row}
 use Rattle.runs.specs.Figures.{entryOf, exitTimes, exitCount, tight, published}
 use Rattle.image.specs.Tasks.{taskOf}
-use Rattle.image.specs.Judged.{numberOf, judged}
-use Rattle.image.specs.declared.Refusal.the-variants.{Table}
+use Rattle.image.specs.Judged.{judged}
+use Rattle.refusals.specs.Refusals.{numberOf}
+use Rattle.refusals.specs.declared.Refusal.the-variants.{Table}
 use Rattle.image.specs.declared.Verdict.{Verdict}
 use Rattle.image.specs.declared.Verdict.the-variants.{Accepted, Refused}
 use Rattle.answers.specs.declared.Answer.{Answer}

@@ -3,7 +3,7 @@
 // specs/: Answers (the answer and the table at exit, over the image's bytes and the table at entry), WholeRuns (demand 3, one statement about all whole
 // runs), Accesses and Promise (demand 2; the three parts of what `figures` of crate figures promises), EitherWay (equal slots written with tag 1 or 9).
 // proofs/: both demands follow from the equality alone (`demand3`, `demand2` of Promises); `equal-answers` of EitherWay.
-use image::Refusal;
+use refusals::Refusal;
 
 // Both figures and the count of exit offsets.
 pub struct Totals {

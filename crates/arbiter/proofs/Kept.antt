@@ -10,7 +10,7 @@ use Rattle.runs.proofs.Cases.{either}
 use Rattle.arbiter.specs.declared.Arbiter.{Arbiter}
 use Rattle.arbiter.specs.declared.Outcome.{Outcome}
 use Rattle.arbiter.specs.declared.Registers.{Registers}
-use Rattle.image.specs.declared.Refusal.the-variants.{Register}
+use Rattle.refusals.specs.declared.Refusal.the-variants.{Register}
 use Rattle.arbiter.specs.Device.{sized, fits, flagsFit, formed, usable, clear, registersOf, slotsOfCore, stepped, ticked, writable, busy, cleared, withRegisters}
 use Rattle.arbiter.specs.declared.Call.{Call}
 use Rattle.arbiter.specs.declared.Call.the-variants.{Read, Line, Write, Tick, Reset}

@@ -6,7 +6,7 @@ use borrow.Author.Tests.{ltb-true, lt-leb, le-leb, lt-ltb, ne-eqb, eq-eqb, eqb-t
 use lib.Dec.{leb, ltb, eqb}
 use Prim.Native.Nat.{ℕ, zero, suc, _≤_, _<_}
 use Rattle.runs.proofs.Cases.{either, split}
-use Rattle.image.specs.declared.Refusal.the-variants.{Register, Busy}
+use Rattle.refusals.specs.declared.Refusal.the-variants.{Register, Busy}
 use Rattle.arbiter.specs.declared.Arbiter.{Arbiter}
 use Rattle.arbiter.specs.declared.Outcome.{Outcome}
 use Rattle.arbiter.specs.Device.{sized, formed, usable, registersOf, registerAt, lineOf, writable, busy}

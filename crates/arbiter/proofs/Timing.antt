@@ -16,8 +16,8 @@ use Rattle.runs.proofs.Accesses.{access-only, access-ends, pass-is}
 use Rattle.runs.proofs.OffsetsLaws.{offsets-turn}
 use Rattle.runs.proofs.SlotsLaws.{equation7-is, equal-lawful}
 use Rattle.runs.proofs.Cases.{split, either}
-use Rattle.image.specs.declared.Refusal.{Refusal}
-use Rattle.image.specs.declared.Refusal.the-variants.{Register, Busy}
+use Rattle.refusals.specs.declared.Refusal.{Refusal}
+use Rattle.refusals.specs.declared.Refusal.the-variants.{Register, Busy}
 use Rattle.arbiter.specs.declared.Arbiter.{Arbiter}
 use Rattle.arbiter.specs.declared.Outcome.{Outcome}
 use Rattle.arbiter.specs.declared.Registers.{Registers}

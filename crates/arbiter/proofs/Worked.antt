@@ -5,7 +5,7 @@ use lib.ListN.{replicate}
 use Prim.Native.Nat.{ℕ}
 use Rattle.runs.specs.Slots.{inSlot}
 use Rattle.schedule.specs.Said.{busOk}
-use Rattle.image.specs.declared.Refusal.the-variants.{Register, Busy}
+use Rattle.refusals.specs.declared.Refusal.the-variants.{Register, Busy}
 use Rattle.arbiter.specs.declared.Arbiter.{Arbiter}
 use Rattle.arbiter.specs.declared.Call.the-variants.{Read, Line, Write, Tick, Reset}
 use Rattle.arbiter.specs.declared.Reply.{Reply}

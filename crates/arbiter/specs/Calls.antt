@@ -3,9 +3,9 @@ use mathlib.Core.Bool.{cond, _&&_}
 use mathlib.Core.List.{List, [], _∷_}
 use lib.Dec.{ltb, eqb}
 use Prim.Native.Nat.{ℕ}
-use Rattle.image.specs.Judged.{numberOf}
-use Rattle.image.specs.declared.Refusal.{Refusal}
-use Rattle.image.specs.declared.Refusal.the-variants.{Register, Busy}
+use Rattle.refusals.specs.Refusals.{numberOf}
+use Rattle.refusals.specs.declared.Refusal.{Refusal}
+use Rattle.refusals.specs.declared.Refusal.the-variants.{Register, Busy}
 use Rattle.arbiter.specs.Device.{sized, formed, usable, registersOf, withRegisters, registerAt, lineOf, writable, busy, cleared, ticked}
 use Rattle.arbiter.specs.declared.Arbiter.{Arbiter}
 use Rattle.arbiter.specs.declared.Call.{Call}

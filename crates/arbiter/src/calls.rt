@@ -14,7 +14,7 @@ use crate::states::registers_at;
 use crate::states::state_ok;
 use crate::states::with_registers;
 use crate::ticks::ticked_state;
-use image::Refusal;
+use refusals::Refusal;
 
 pub fn refuse(r: Refusal, s: Arbiter) -> Outcome
     ensures { λ o. ⌜ o ≡ Rattle.arbiter.specs.Calls.refuse r s ⌝ }

@@ -13,7 +13,7 @@
 // (`since-reset` in proofs/Timing.antt). From any state: other cores never alter a core's registers or line (`undisturbed` in proofs/Apart.antt).
 //
 // src/: states (what a state may hold), ticks, calls (each kind of call, and any).
-use image::Refusal;
+use refusals::Refusal;
 
 pub mod calls;
 mod states;

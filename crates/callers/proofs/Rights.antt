@@ -9,7 +9,7 @@ use lib.Dec.{ltb, eqb}
 use lib.ListN.{length}
 use Prim.Native.Nat.{ℕ, _<_}
 use Rattle.runs.proofs.Cases.{either}
-use Rattle.image.specs.declared.Refusal.the-variants.{Forbidden}
+use Rattle.refusals.specs.declared.Refusal.the-variants.{Forbidden}
 use Rattle.arbiter.specs.declared.Arbiter.{Arbiter}
 use Rattle.arbiter.specs.declared.Outcome.{Outcome}
 use Rattle.arbiter.specs.declared.Call.{Call}

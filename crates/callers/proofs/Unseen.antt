@@ -7,7 +7,7 @@ use borrow.Author.Tests.{eqb-true, eq-eqb, ne-eqb}
 use lib.Dec.{eqb}
 use Prim.Native.Nat.{ℕ, _<_}
 use Rattle.runs.proofs.Cases.{either}
-use Rattle.image.specs.declared.Refusal.the-variants.{Forbidden}
+use Rattle.refusals.specs.declared.Refusal.the-variants.{Forbidden}
 use Rattle.arbiter.specs.declared.Arbiter.{Arbiter}
 use Rattle.arbiter.specs.declared.Call.{Call}
 use Rattle.arbiter.specs.declared.Call.the-variants.{Reset}

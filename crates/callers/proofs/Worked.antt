@@ -2,7 +2,7 @@
 use mathlib.Core.Path.{_≡_, refl}
 use Rattle.runs.specs.Slots.{inSlot}
 use Rattle.schedule.specs.Said.{busOk}
-use Rattle.image.specs.declared.Refusal.the-variants.{Register, Forbidden}
+use Rattle.refusals.specs.declared.Refusal.the-variants.{Register, Forbidden}
 use Rattle.arbiter.specs.declared.Call.the-variants.{Read, Line, Write, Tick, Reset}
 use Rattle.arbiter.specs.declared.Reply.the-variants.{Accepted, Value, Refused}
 use Rattle.arbiter.specs.Device.{busy, flagsFit, fits, allFit, formed, usable, registerAt, lineOf, writable, cleared, startsNow, turned, countDown, fallen, steppedFrom, ticked}

@@ -5,7 +5,7 @@ use mathlib.Core.Bool.{Bool, true, false, cond, _&&_, _||_}
 use mathlib.Core.List.{List, [], _∷_}
 use lib.Dec.{ltb, eqb}
 use Prim.Native.Nat.{ℕ}
-use Rattle.image.specs.declared.Refusal.the-variants.{Forbidden}
+use Rattle.refusals.specs.declared.Refusal.the-variants.{Forbidden}
 use Rattle.arbiter.specs.declared.Arbiter.{Arbiter}
 use Rattle.arbiter.specs.declared.Call.{Call}
 use Rattle.arbiter.specs.declared.Call.the-variants.{Read, Line, Write, Tick, Reset}

@@ -20,7 +20,7 @@ use arbiter::Outcome;
 use arbiter::Reply;
 use arbiter::calls::on;
 use arbiter::calls::refuse;
-use image::Refusal;
+use refusals::Refusal;
 
 // The caller that is no core.
 const WORKSHOP: usize = 16;

@@ -10,8 +10,8 @@ use Rattle.runs.proofs.Cases.{either}
 use Rattle.bytes.specs.Bytes.{byteAt}
 use Rattle.rows.specs.Tests.{plainOk}
 use Rattle.image.specs.Judged.{judged}
-use Rattle.image.specs.declared.Refusal.{Refusal}
-use Rattle.image.specs.declared.Refusal.the-variants.{Value, Block}
+use Rattle.refusals.specs.declared.Refusal.{Refusal}
+use Rattle.refusals.specs.declared.Refusal.the-variants.{Value, Block}
 use Rattle.image.specs.declared.Outline.{Outline}
 use Rattle.image.specs.declared.Verdict.{Verdict}
 use Rattle.image.specs.declared.Verdict.the-variants.{Accepted, Refused}

@@ -7,8 +7,9 @@ use lib.Dec.{eqb, ltb}
 use Prim.Native.Nat.{ℕ, _+_, _/_, _%_}
 use Rattle.rows.specs.Tests.{plainOk}
 use Rattle.rows.specs.Fields.{fieldAt, tagAt, bodyAt}
-use Rattle.image.specs.Judged.{numberOf, judged}
-use Rattle.image.specs.declared.Refusal.the-variants.{Value, Block}
+use Rattle.image.specs.Judged.{judged}
+use Rattle.refusals.specs.Refusals.{numberOf}
+use Rattle.refusals.specs.declared.Refusal.the-variants.{Value, Block}
 use Rattle.image.specs.declared.Outline.{Outline}
 use Rattle.image.specs.declared.Verdict.{Verdict}
 use Rattle.image.specs.declared.Verdict.the-variants.{Accepted, Refused}

@@ -11,8 +11,8 @@ use Rattle.image.specs.Tasks.{startsOf}
 use Rattle.image.specs.Conditions.{Condition, Accepting}
 use Rattle.rows.specs.Rules.{Durations}
 use Rattle.image.specs.Judged.{judged}
-use Rattle.image.specs.declared.Refusal.{Refusal}
-use Rattle.image.specs.declared.Refusal.the-variants.{Value, Block}
+use Rattle.refusals.specs.declared.Refusal.{Refusal}
+use Rattle.refusals.specs.declared.Refusal.the-variants.{Value, Block}
 use Rattle.image.specs.declared.Outline.{Outline}
 use Rattle.image.specs.declared.Verdict.the-variants.{Accepted}
 use Rattle.edits.specs.Edits.{placeOf, changeOf, change, imageAfter}

@@ -13,8 +13,8 @@ ghost use lib.ListN.{length};
 ghost use Rattle.edits.specs.Edits.{withDurations};
 ghost use Rattle.edits.specs.Promise.{Editing, EditDone};
 ghost use Rattle.edits.specs.Steps.{Room, Finding};
-use image::Refusal;
 use image::Verdict;
+use refusals::Refusal;
 
 // The edit is done, or why not and at which place.
 pub enum Edited {

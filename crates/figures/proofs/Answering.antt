@@ -7,7 +7,7 @@ use Prim.Native.Nat.{ℕ, _≤_, _<_}
 use Rattle.runs.specs.Figures.{longestOf, published}
 use Rattle.schedule.specs.Said.{said}
 use Rattle.image.specs.Tasks.{taskOf}
-use Rattle.image.specs.declared.Refusal.the-variants.{Table}
+use Rattle.refusals.specs.declared.Refusal.the-variants.{Table}
 use Rattle.image.specs.declared.Outline.{Outline}
 use Rattle.times.specs.Arrays.{timeOf, tableOf}
 use Rattle.answers.specs.declared.Totals.{Totals}

@@ -19,10 +19,10 @@ ghost use Rattle.figures.specs.Steps.{Listing, Answerable, Answered, Sta
 use answers::Answer;
 use answers::Totals;
 use image::Outline;
-use image::Refusal;
 use image::Verdict;
 use image::Walk;
 use offsets::Set;
+use refusals::Refusal;
 
 // Where the start offsets stand: field 2 is behind field 1, wherever that ends.
 fn starts_at(image: &[u8]) -> usize

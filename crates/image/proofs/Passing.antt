@@ -9,7 +9,7 @@ use borrow.Author.Tests.{le-leb, lt-leb, le-ltb}
 use Rattle.image.specs.Judged.{fieldOf, scanFrom, scan}
 use Rattle.rows.specs.Fields.{fieldAt, lengthAt, GoodField, Passed}
 use Rattle.image.specs.Conditions.{Complete}
-use Rattle.image.specs.declared.Refusal.{Refusal}
+use Rattle.refusals.specs.declared.Refusal.{Refusal}
 use Rattle.image.specs.declared.fields.Judgement.the-variants.{Good, Bad}
 use Rattle.image.specs.declared.fields.End.the-variants.{Stopped, Whole}
 use Rattle.rows.proofs.Rules.{tested}

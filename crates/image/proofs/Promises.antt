@@ -15,7 +15,7 @@ use Rattle.image.specs.Judged.{scan, wholeOf, judged}
 use Rattle.image.specs.Promise.{Judging}
 use Rattle.image.specs.Walks.{Sound}
 use Rattle.nodes.specs.Fine.{Placed}
-use Rattle.image.specs.declared.Refusal.{Refusal}
+use Rattle.refusals.specs.declared.Refusal.{Refusal}
 use Rattle.image.specs.declared.fields.End.the-variants.{Stopped, Whole}
 use Rattle.image.specs.declared.Outline.{Outline}
 use Rattle.image.specs.declared.Verdict.{Verdict}

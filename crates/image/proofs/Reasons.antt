@@ -12,12 +12,13 @@ use borrow.Author.Tests.{lt-ltb, le-ltb, lt-leb}
 use Rattle.runs.specs.Lines.{power}
 use Rattle.runs.specs.Nodes.{depth, visits}
 use Rattle.schedule.specs.Said.{said}
-use Rattle.image.specs.Judged.{fieldOf, numberOf, scan, wholeOf, judged}
+use Rattle.image.specs.Judged.{fieldOf, scan, wholeOf, judged}
+use Rattle.refusals.specs.Refusals.{numberOf}
 use Rattle.rows.specs.Fields.{fieldAt, lengthAt, bodyAt, Passed}
 use Rattle.nodes.specs.Nodes.{linesOf, treeAt}
 use Rattle.image.specs.Conditions.{Complete, Condition, head-cut, wrong-tag, one-more, wrong-length, body-cut, wrong-value, not-below, no-node, too-deep, too-long, too-wide, Accepting}
-use Rattle.image.specs.declared.Refusal.{Refusal}
-use Rattle.image.specs.declared.Refusal.the-variants.{Cut, Tag, Full, Length, Value, Forward, Unfinished, Deep, Long, Lines}
+use Rattle.refusals.specs.declared.Refusal.{Refusal}
+use Rattle.refusals.specs.declared.Refusal.the-variants.{Cut, Tag, Full, Length, Value, Forward, Unfinished, Deep, Long, Lines}
 use Rattle.image.specs.declared.fields.Judgement.the-variants.{Bad}
 use Rattle.image.specs.declared.fields.End.the-variants.{Whole}
 use Rattle.image.specs.declared.Outline.{Outline}

@@ -15,7 +15,7 @@ use Rattle.image.specs.Tasks.{startsOf}
 use Rattle.image.specs.Conditions.{Complete, Condition, head-cut, wrong-tag, one-more, wrong-length, body-cut, wrong-value, not-below, no-node, too-deep, too-long, too-wide, Accepting}
 use Rattle.image.specs.Judged.{judged}
 use Rattle.image.specs.Moved.{moved}
-use Rattle.image.specs.declared.Refusal.{Refusal}
+use Rattle.refusals.specs.declared.Refusal.{Refusal}
 use Rattle.image.specs.declared.Outline.{Outline}
 use Rattle.image.specs.declared.Verdict.{Verdict}
 use Rattle.image.specs.declared.Verdict.the-variants.{Accepted, Refused}

@@ -16,7 +16,7 @@ use Rattle.image.specs.Judged.{fieldOf, onField, scanFrom, scan, wholeOf
 use Rattle.rows.specs.Fields.{fieldAt, tagAt, lengthAt, bodyAt, UpToTag, UpToValue, GoodField, Passed}
 use Rattle.nodes.specs.Nodes.{linesOf, treeAt}
 use Rattle.image.specs.Conditions.{Complete, Condition, head-cut, wrong-tag, one-more, wrong-length, body-cut, wrong-value, not-below, no-node, too-deep, too-long, too-wide, Accepting}
-use Rattle.image.specs.declared.Refusal.the-variants.{Cut, Tag, Full, Length, Value, Forward, Unfinished, Deep, Long, Lines}
+use Rattle.refusals.specs.declared.Refusal.the-variants.{Cut, Tag, Full, Length, Value, Forward, Unfinished, Deep, Long, Lines}
 use Rattle.image.specs.declared.fields.Judgement.{Judgement}
 use Rattle.image.specs.declared.fields.Judgement.the-variants.{Good, Bad}
 use Rattle.image.specs.declared.fields.End.{End}

@@ -12,7 +12,7 @@ use Rattle.image.specs.Judged.{fieldOf}
 use Rattle.rows.specs.Fields.{fieldAt, GoodField, Passed}
 use Rattle.nodes.specs.Fine.{Placed}
 use Rattle.image.specs.Inner.{Scanned}
-use Rattle.image.specs.declared.Refusal.{Refusal}
+use Rattle.refusals.specs.declared.Refusal.{Refusal}
 use Rattle.image.specs.declared.fields.Judgement.the-variants.{Good, Bad}
 use Rattle.image.specs.declared.fields.End.the-variants.{Stopped, Whole}
 use Rattle.rows.proofs.Standing.{first-at, inside, passed-more}

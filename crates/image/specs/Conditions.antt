@@ -12,8 +12,8 @@ use Rattle.rows.specs.Rules.{TagRule, LengthRule, ValueRule, ChildRule}
 use Rattle.rows.specs.Fields.{fieldAt, tagAt, lengthAt, bodyAt, UpToHead, UpToTag, UpToRoom, UpToLength, UpToBody, UpToValue, Passed}
 use Rattle.nodes.specs.Nodes.{linesOf, treeAt}
 use Rattle.image.specs.declared.Outline.{Outline}
-use Rattle.image.specs.declared.Refusal.{Refusal}
-use Rattle.image.specs.declared.Refusal.the-variants.{Cut, Tag, Full, Length, Value, Forward, Unfinished, Deep, Long, Lines}
+use Rattle.refusals.specs.declared.Refusal.{Refusal}
+use Rattle.refusals.specs.declared.Refusal.the-variants.{Cut, Tag, Full, Length, Value, Forward, Unfinished, Deep, Long, Lines}
 
 -- the n fields from the front are good, and they fill the image
 pub record Complete (s : List ℕ) (n : ℕ) : Type 0 where

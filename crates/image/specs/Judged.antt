@@ -14,14 +14,14 @@ use Rattle.rows.specs.Tests.{tagOk, lengthOk, valueOk, childrenOk}
 use Rattle.rows.specs.Fields.{fieldAt}
 use Rattle.nodes.specs.Nodes.{treeAt, linesOf}
 use Rattle.image.specs.Tasks.{taskOf}
-use Rattle.image.specs.declared.Refusal.{Refusal}
-use Rattle.image.specs.declared.Refusal.the-variants.{Cut, Tag, Full, Length, Value, Forward, Unfinished, Deep, Long, Table, Register, Busy, Forbidden, Lines, Block}
+use Rattle.refusals.specs.declared.Refusal.the-variants.{Cut, Tag, Full, Length, Value, Forward, Unfinished, Deep, Long, Lines}
 use Rattle.image.specs.declared.fields.Judgement.{Judgement}
 use Rattle.image.specs.declared.fields.Judgement.the-variants.{Good, Bad}
 use Rattle.image.specs.declared.fields.End.{End}
 use Rattle.image.specs.declared.fields.End.the-variants.{Stopped, Whole}
 use Rattle.image.specs.declared.Verdict.{Verdict}
 use Rattle.image.specs.declared.Verdict.the-variants.{Accepted, Refused}
+use Rattle.refusals.specs.Refusals.{numberOf, wordOf}
 
 -- "Within one the order is: head cut, 2, 3, 4, body cut, 5, 6." The field at a place, `index` fields standing before it; a good
 -- one gives the place of the next. The node fields are those from index 2 on, so the 257th has index 258.
@@ -35,42 +35,6 @@ fieldOf s at index =
     (cond (not (valueOk s (byteAt s at) (at + 3) (wordAt s (at + 1)))) (Bad Value)
     (cond (not (childrenOk s (byteAt s at) (at + 3) (wordAt s (at + 1)) index)) (Bad Forward)
     (Good (at + 3 + wordAt s (at + 1)))))))))
-
--- "Number"; those above 10 are new numbers of document 02
-abbrev pub numberOf : Refusal → ℕ
-numberOf Cut = 1
-numberOf Tag = 2
-numberOf Full = 3
-numberOf Length = 4
-numberOf Value = 5
-numberOf Forward = 6
-numberOf Unfinished = 7
-numberOf Deep = 8
-numberOf Long = 9
-numberOf Table = 10
-numberOf Register = 15
-numberOf Busy = 16
-numberOf Forbidden = 17
-numberOf Lines = 18
-numberOf Block = 19
-
--- "Word"
-abbrev pub wordOf : Refusal → String
-wordOf Cut = "cut"
-wordOf Tag = "tag"
-wordOf Full = "full"
-wordOf Length = "length"
-wordOf Value = "value"
-wordOf Forward = "forward"
-wordOf Unfinished = "unfinished"
-wordOf Deep = "deep"
-wordOf Long = "long"
-wordOf Table = "table"
-wordOf Register = "register"
-wordOf Busy = "busy"
-wordOf Forbidden = "forbidden"
-wordOf Lines = "lines"
-wordOf Block = "block"
 
 -- a field that is refused stops the scan at its place; a good one leads on to the next
 abbrev pub onField : ℕ → (ℕ → End) → Judgement → End

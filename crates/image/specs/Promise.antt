@@ -5,7 +5,7 @@ use Prim.Native.Nat.{ℕ}
 use Rattle.image.specs.Tasks.{nodePlaces}
 use Rattle.image.specs.Judged.{judged}
 use Rattle.image.specs.Conditions.{Condition, Accepting}
-use Rattle.image.specs.declared.Refusal.{Refusal}
+use Rattle.refusals.specs.declared.Refusal.{Refusal}
 use Rattle.image.specs.declared.Outline.{Outline}
 use Rattle.image.specs.declared.Verdict.{Verdict}
 use Rattle.image.specs.declared.Verdict.the-variants.{Accepted, Refused}

@@ -3,14 +3,14 @@
 // `judge` takes any bytes, has no `requires` and promises `Judging` of specs/Promise.antt: the verdict is the one that the
 // definition `judged` names; an image is refused for a reason at a place if and only if the condition of that row of the table holds
 // there; and of an accepted image every field keeps the rules of its row, the outline is what they say, and beside the verdict stand the
-// places of its nodes. For a refused image the places are left free. `number` gives the document's number of a refusal.
+// places of its nodes. For a refused image the places are left free. The list of refusals is crate refusals.
 //
 // specs/ has the definitions, in the document's order: Tasks (the task that an image's bytes say), Judged (a field, the scan, 7 to 9 and 18, and the
 // verdict), Conditions (the table, row by row), Promise; Inner is between functions of this crate. The rows' rules are in crate rows, what a node field means
 // to crate `runs` in crate nodes, field 1's rules in crate schedule.
 // src/: fields (one field, and the scan), and the verdict here.
 ghost use mathlib.Core.Path.{_≡_};
-ghost use Rattle.image.specs.Judged.{wholeOf, numberOf};
+ghost use Rattle.image.specs.Judged.{wholeOf};
 ghost use Rattle.image.specs.Conditions.{Complete};
 ghost use Rattle.image.specs.Promise.{Judging};
 ghost use Rattle.nodes.specs.Fine.{Placed};
@@ -21,29 +21,10 @@ use bytes::word;
 use nodes::fetched::lines;
 use nodes::fetched::power;
 use nodes::weigh::weights;
+use refusals::Refusal;
 use schedule::period_at;
 
 mod fields;
-
-// Why there is no answer: the words of the papers' tables but 21, in one list. Judging answers the first nine and `Lines` (18); `Table` is for
-// what lends a table, `Register`, `Busy` and `Forbidden` are for calls to the arbiter (15 to 17), `Block` is for one that edits a block (19).
-pub enum Refusal {
-    Cut,
-    Tag,
-    Full,
-    Length,
-    Value,
-    Forward,
-    Unfinished,
-    Deep,
-    Long,
-    Table,
-    Register,
-    Busy,
-    Forbidden,
-    Lines,
-    Block,
-}
 
 // The outline of an accepted image: the period of the bus, the number of start offsets in field 2, the number of lines and of sets of
 // lines, the number of nodes, and the last of them.
@@ -71,29 +52,6 @@ pub enum Verdict {
 pub struct Judged {
     pub verdict: Verdict,
     pub places: [usize; 256],
-}
-
-// The number that the table gives a refusal.
-pub fn number(r: Refusal) -> usize
-    ensures { λ n. ⌜ n ≡ numberOf r ⌝ }
-{
-    match r {
-        Refusal::Cut => 1,
-        Refusal::Tag => 2,
-        Refusal::Full => 3,
-        Refusal::Length => 4,
-        Refusal::Value => 5,
-        Refusal::Forward => 6,
-        Refusal::Unfinished => 7,
-        Refusal::Deep => 8,
-        Refusal::Long => 9,
-        Refusal::Table => 10,
-        Refusal::Register => 15,
-        Refusal::Busy => 16,
-        Refusal::Forbidden => 17,
-        Refusal::Lines => 18,
-        Refusal::Block => 19,
-    }
 }
 
 // The verdict on an image whose `count` fields are good and fill it: 7, 8, 9, 18, or accepted.

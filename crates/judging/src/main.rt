@@ -4,9 +4,9 @@
 use bytes::word;
 use image::Verdict;
 use image::judge;
-use image::number;
 use libc::STDIN_FILENO;
 use libc::STDOUT_FILENO;
+use refusals::number;
 
 // Writes the line of one image.
 fn tell(case: u64, image: &[u8]) {

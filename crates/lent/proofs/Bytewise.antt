@@ -7,8 +7,8 @@ use mathlib.Core.List.{List, [], _∷_}
 use lib.ListN.{length, getD, drop}
 use lib.Dec.{leb, eqb}
 use Prim.Native.Nat.{ℕ, _≤_, _<_}
-use Rattle.image.specs.Judged.{numberOf}
-use Rattle.image.specs.declared.Refusal.{Refusal}
+use Rattle.refusals.specs.Refusals.{numberOf}
+use Rattle.refusals.specs.declared.Refusal.{Refusal}
 use Rattle.schedule.proofs.Numbers.{both}
 use Rattle.arbiter.specs.declared.Call.{Call}
 use Rattle.arbiter.specs.Calls.{after, answer, Told, done, refused, told}

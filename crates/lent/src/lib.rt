@@ -12,7 +12,7 @@ ghost use mathlib.Core.Path.{_≡_};
 ghost use mathlib.Core.List.{_∷_};
 ghost use Prim.Native.Nat.{_≤_};
 ghost use lib.ListN.{length, drop};
-ghost use Rattle.image.specs.Judged.{numberOf};
+ghost use Rattle.refusals.specs.Refusals.{numberOf};
 ghost use Rattle.arbiter.specs.Calls.{told};
 ghost use Rattle.lent.specs.Answers.{doneInto, refusedInto};
 ghost use Rattle.lent.specs.OnBytes.{room, toldInto, arbiterInto, arbiterCall, WholeCall};
@@ -22,7 +22,7 @@ use crate::state_bytes::state_of;
 use arbiter::Call;
 use arbiter::Outcome;
 use arbiter::Reply;
-use image::Refusal;
+use refusals::Refusal;
 
 mod state_bytes;
 
@@ -58,7 +58,7 @@ pub fn refuse(answer: &mut [u64], r: Refusal, place: usize) -> u64
     requires { ⌜ 2 ≤ length (now answer) ⌝ }
     ensures { λ n. ⌜ refusedInto (numberOf r) place (now (answer .entry)) ≡ (n, now (answer .exit)) ⌝ }
 {
-    let number = image::number(r);
+    let number = refusals::number(r);
     put(answer, number as u64, place as u64);
     REFUSED
 }

@@ -9,9 +9,10 @@ use lib.Seq.{take-all}
 use native.Mathlib.Omega.{arith}
 use Prim.Native.Nat.{ℕ, _≤_, _<_}
 use Rattle.bytes.specs.Bytes.{byteAt}
-use Rattle.image.specs.Judged.{numberedOf, numbered, numberOf}
+use Rattle.image.specs.Judged.{numberedOf, numbered}
+use Rattle.refusals.specs.Refusals.{numberOf}
 use Rattle.image.specs.Promise.{Judging}
-use Rattle.image.specs.declared.Refusal.{Refusal}
+use Rattle.refusals.specs.declared.Refusal.{Refusal}
 use Rattle.image.specs.declared.Outline.{Outline}
 use Rattle.image.specs.declared.Verdict.{Verdict}
 use Rattle.image.specs.declared.Verdict.the-variants.{Accepted, Refused}

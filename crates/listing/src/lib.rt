@@ -15,7 +15,11 @@ pub fn listing(image: &[u8], out: &mut [u8]) -> Written
     let mut table = [18446744073709551615u64; 256];
     let answer = figures::figures(image, &mut table);
     match answer {
-        Answer::Refused(r, place) => text::list_refused(image::number(r) as u64, place as u64, out),
+        Answer::Refused(r, place) => text::list_refused(
+            refusals::number(r) as u64,
+            place as u64,
+            out,
+        ),
         Answer::Given(f) => text::list_figures(f.tight, f.published, f.exits, 256, &table, out),
     }
 }

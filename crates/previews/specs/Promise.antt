@@ -5,8 +5,8 @@ use mathlib.Core.List.{List}
 use lib.ListN.{length}
 use Prim.Native.Nat.{ℕ, _≤_, _<_}
 use Rattle.image.specs.Tasks.{taskOf}
-use Rattle.image.specs.declared.Refusal.{Refusal}
-use Rattle.image.specs.declared.Refusal.the-variants.{Table}
+use Rattle.refusals.specs.declared.Refusal.{Refusal}
+use Rattle.refusals.specs.declared.Refusal.the-variants.{Table}
 use Rattle.image.specs.declared.Outline.{Outline}
 use Rattle.answers.specs.declared.Totals.{Totals}
 use Rattle.answers.specs.declared.Answer.{Answer}

@@ -68,7 +68,7 @@ fn block_outcome(b: Bus, x: BusBlock, s: Set) -> Outcome
     requires { ⌜ BusReady b (x .lowest) (x .highest) s ⌝ }
     ensures { λ r. ⌜ Published b (Tree.bus (kindMeant (x .kind)) (x .lowest) (x .highest)) s r ⌝ }
 {
-    let cost = exits::access_cost(b, x.lowest, x.highest, s);
+    let cost = costs::access_cost(b, x.lowest, x.highest, s);
     let kind = x.kind;
     match kind {
         Kind::May => Outcome {
@@ -87,7 +87,7 @@ fn once_outcome(b: Bus, x: Once, s: Set) -> Outcome
     requires { ⌜ (BusReady b (x .lowest) (x .highest) s) × (x .hit ≤ 65535) ⌝ }
     ensures { λ r. ⌜ Published b (Tree.once (x .line) (x .lowest) (x .highest) (x .hit)) s r ⌝ }
 {
-    let cost = exits::access_cost(b, x.lowest, x.highest, s);
+    let cost = costs::access_cost(b, x.lowest, x.highest, s);
     let missed = exits::access_exits(b, x.lowest, x.highest, s);
     let hit = exits::plain_exits(b, x.hit, x.hit, s);
     Outcome {

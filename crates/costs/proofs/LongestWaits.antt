@@ -16,9 +16,9 @@ use Rattle.bus.specs.Aheads.{Ahead}
 use Rattle.bus.specs.Owning.{owns, busMeant, Fit}
 use Rattle.offsets.specs.declared.Set.{Set}
 use Rattle.offsets.specs.Sets.{value, has}
-use Rattle.exits.specs.Exits.{LongestWait, Slowest}
+use Rattle.costs.specs.Costs.{LongestWait, Slowest}
 use Rattle.exits.proofs.Landings.{all-own}
 use Rattle.exits.proofs.Served.{Met, none-past}
 
 -- nothing is gone
 pub longest-none : (P : ℕ) (own : ℕ → Bool) (n e y : ℕ) → LongestWait P own n e 0 y 0 0

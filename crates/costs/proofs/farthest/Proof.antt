@@ -6,12 +6,12 @@ use Rattle.runs.proofs.Forward.{some-len}
 use Rattle.bus.specs.Stretches.{Nth}
 use Rattle.bus.specs.Owning.{owns}
 use Rattle.offsets.specs.Sets.{value}
-use Rattle.exits.specs.Exits.{LongestWait}
+use Rattle.costs.specs.Costs.{LongestWait}
 use Rattle.exits.proofs.Served.{Met, met-first, met-next}
-use Rattle.exits.proofs.LongestWaits.{Kept, longest-none, kept-first, kept-same, kept-far, slowest-any, slowest}
+use Rattle.costs.proofs.LongestWaits.{Kept, longest-none, kept-first, kept-same, kept-far, slowest-any, slowest}
 use native.Mathlib.Omega.{arith}
-use Rattle.exits.proofs.farthest.Statement.{statement}
-use Rattle.exits.proofs.farthest.Tie as tie
+use Rattle.costs.proofs.farthest.Statement.{statement}
+use Rattle.costs.proofs.farthest.Tie as tie
 
 abbrev Inv-loop : tie.InvT-loop
 Inv-loop b e s o at₀ best₀ far₀ i₀ x₀ len₀ gone₀ at best far i x len gone =

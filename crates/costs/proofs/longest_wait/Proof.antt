@@ -4,11 +4,11 @@ use mathlib.Core.Logic.{⊎-elim}
 use Prim.Native.Nat.{ℕ, _<_}
 use Rattle.bus.specs.Owning.{owns}
 use Rattle.offsets.specs.Sets.{value}
-use Rattle.exits.proofs.LongestWaits.{longest-past, longest-few, longest-near}
+use Rattle.costs.proofs.LongestWaits.{longest-past, longest-few, longest-near}
 use native.Mathlib.Omega.{arith}
 use borrow.Author.Needs.{needs}
-use Rattle.exits.proofs.longest_wait.Statement.{statement}
-use Rattle.exits.proofs.longest_wait.Tie as tie
+use Rattle.costs.proofs.longest_wait.Statement.{statement}
+use Rattle.costs.proofs.longest_wait.Tie as tie
 
 add-result : tie.Need-add-result
 add-result c = search needs

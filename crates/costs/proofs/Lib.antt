@@ -1,0 +1,2 @@
+mod LongestWaits
+mod Highest
