@@ -8,16 +8,16 @@ use lib.ListN.{length, set, length-set, List·getD-eq-default}
 use lib.Seq.{getD-set-same}
 use Prim.Native.Nat.{ℕ, _+_, _*_, _%_, _≤_}
 use Rattle.runs.proofs.Cases.{split, either}
-use Rattle.arbiter.specs.declared.Arbiter.{Arbiter}
+use Rattle.device.specs.declared.Arbiter.{Arbiter}
 use Rattle.arbiter.specs.declared.Outcome.{Outcome}
-use Rattle.arbiter.specs.declared.Registers.{Registers}
+use Rattle.device.specs.declared.Registers.{Registers}
 use Rattle.arbiter.specs.declared.Reply.the-variants.{Value}
-use Rattle.arbiter.specs.Device.{sized, formed, usable, clear, registersOf, stepped, ticked, writable, busy, cleared, withRegisters, registerAt, lineOf}
+use Rattle.device.specs.Device.{sized, formed, usable, clear, registersOf, stepped, ticked, writable, busy, cleared, withRegisters, registerAt, lineOf}
 use Rattle.arbiter.specs.declared.Call.{Call}
 use Rattle.arbiter.specs.declared.Call.the-variants.{Read, Line, Write, Tick, Reset}
 use Rattle.arbiter.specs.Calls.{outcome, after, answer, afterAll, written}
 use Rattle.arbiter.specs.Sequences.{concerns, concerning, Alike}
-use Rattle.arbiter.proofs.Steps.{ticked-formed}
+use Rattle.device.proofs.Steps.{ticked-formed}
 use Rattle.arbiter.proofs.Kept.{cond-both, read-leaves, line-leaves, wrote, Frame, frameOf, wrote-frame, wrote-other, tick-leaves, tick-refused, ticked-registers, ticked-length, reset-leaves, reset-refused}
 
 -- all that a call of core p, a tick or a reset sees of two states is equal

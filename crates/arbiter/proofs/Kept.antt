@@ -7,17 +7,17 @@ use lib.ListN.{length, set, length-set, length-replicate}
 use lib.Seq.{getD-set-other}
 use Prim.Native.Nat.{ℕ, _<_}
 use Rattle.runs.proofs.Cases.{either}
-use Rattle.arbiter.specs.declared.Arbiter.{Arbiter}
+use Rattle.device.specs.declared.Arbiter.{Arbiter}
 use Rattle.arbiter.specs.declared.Outcome.{Outcome}
-use Rattle.arbiter.specs.declared.Registers.{Registers}
+use Rattle.device.specs.declared.Registers.{Registers}
 use Rattle.refusals.specs.declared.Refusal.the-variants.{Register}
-use Rattle.arbiter.specs.Device.{sized, fits, flagsFit, formed, usable, clear, registersOf, slotsOfCore, stepped, ticked, writable, busy, cleared, withRegisters}
+use Rattle.device.specs.Device.{sized, fits, flagsFit, formed, usable, clear, registersOf, slotsOfCore, stepped, ticked, writable, busy, cleared, withRegisters}
 use Rattle.arbiter.specs.declared.Call.{Call}
 use Rattle.arbiter.specs.declared.Call.the-variants.{Read, Line, Write, Tick, Reset}
 use Rattle.arbiter.specs.Calls.{outcome, after, written, refuse, leave}
-use Rattle.arbiter.proofs.Tests.{and-left, and-right, and-both, cond-of}
-use Rattle.arbiter.proofs.Formed.{fits-at, formed-true, usable-formed, usable-core}
-use Rattle.arbiter.proofs.Steps.{stepped-at, stepped-length, ticked-formed, put-formed, cleared-formed}
+use Rattle.device.proofs.Tests.{and-left, and-right, and-both, cond-of}
+use Rattle.device.proofs.Formed.{fits-at, formed-true, usable-formed, usable-core}
+use Rattle.device.proofs.Steps.{stepped-at, stepped-length, ticked-formed, put-formed, cleared-formed}
 
 -- what holds of equal branches of two holds of the two
 pub cond-both {ℓ ℓ′} : {X : Type ℓ} (P : X → X → Type ℓ′) {t u : Bool} → t ≡ u → {x y x′ y′ : X} → P x x′ → P y y′ → P (cond t x y) (cond u x′ y′)

@@ -1,8 +1,3 @@
-pub mod Tests
-pub mod Formed
-pub mod Long
-pub mod Sweeps
-pub mod Steps
 pub mod Reasons
 pub mod Kept
 pub mod Apart

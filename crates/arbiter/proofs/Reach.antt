@@ -12,16 +12,16 @@ use lib.Seq.{getD-set-same}
 use Prim.Native.Nat.{ℕ, zero, suc, _+_, _%_, _≤_, _<_}
 use Rattle.runs.specs.Slots.{Slots, first, periodOf, inSlot}
 use Rattle.runs.proofs.Cases.{split, either}
-use Rattle.arbiter.specs.declared.Arbiter.{Arbiter}
-use Rattle.arbiter.specs.declared.Registers.{Registers}
-use Rattle.arbiter.specs.Device.{sized, formed, clear, registersOf, slotsOfCore, startsNow, countDown, stepped, ticked, cleared, withRegisters}
+use Rattle.device.specs.declared.Arbiter.{Arbiter}
+use Rattle.device.specs.declared.Registers.{Registers}
+use Rattle.device.specs.Device.{sized, formed, clear, registersOf, slotsOfCore, startsNow, countDown, stepped, ticked, cleared, withRegisters}
 use Rattle.arbiter.specs.declared.Call.{Call}
 use Rattle.arbiter.specs.declared.Call.the-variants.{Read, Line, Write, Tick, Reset}
 use Rattle.arbiter.specs.Calls.{after, afterAll}
 use Rattle.arbiter.specs.Sequences.{Reached, fresh, next}
-use Rattle.arbiter.proofs.Tests.{and-left, and-right, or-right, or-cases, same}
-use Rattle.arbiter.proofs.Formed.{formed-true, well-formed}
-use Rattle.arbiter.proofs.Steps.{stepped-is, stepped-clear, ticked-formed, cleared-formed}
+use Rattle.device.proofs.Tests.{and-left, and-right, or-right, or-cases, same}
+use Rattle.device.proofs.Formed.{formed-true, well-formed}
+use Rattle.device.proofs.Steps.{stepped-is, stepped-clear, ticked-formed, cleared-formed}
 use Rattle.arbiter.proofs.Kept.{read-leaves, line-leaves, Wrote, not-at-all, put-there, Rewritten, waits, keeps, wrote, Frame, wrote-frame, wrote-other, tick-leaves, ticked-registers, ticked-length, reset-leaves, reset-refused}
 
 -- what is left of a running access lies inside its core's slot

@@ -7,15 +7,15 @@ use lib.Dec.{leb, ltb, eqb}
 use Prim.Native.Nat.{ℕ, zero, suc, _≤_, _<_}
 use Rattle.runs.proofs.Cases.{either, split}
 use Rattle.refusals.specs.declared.Refusal.the-variants.{Register, Busy}
-use Rattle.arbiter.specs.declared.Arbiter.{Arbiter}
+use Rattle.device.specs.declared.Arbiter.{Arbiter}
 use Rattle.arbiter.specs.declared.Outcome.{Outcome}
-use Rattle.arbiter.specs.Device.{sized, formed, usable, registersOf, registerAt, lineOf, writable, busy}
+use Rattle.device.specs.Device.{sized, formed, usable, registersOf, registerAt, lineOf, writable, busy}
 use Rattle.arbiter.specs.declared.Call.{Call}
 use Rattle.arbiter.specs.declared.Call.the-variants.{Read, Line, Write, Tick, Reset}
 use Rattle.arbiter.specs.Calls.{outcome, written, refuse, after, answer, done, refused, told}
 use Rattle.arbiter.specs.Conditions.{Misnamed, read-core, read-register, line-core, write-core, write-register, write-flags, no-length, length-above, mask-above, reset-size, AsksState, RefusedFor, misnamed, malformed, still-busy}
-use Rattle.arbiter.proofs.Tests.{and-left, and-right, and-both, cond-of}
-use Rattle.arbiter.proofs.Formed.{sized-true, true-sized, well-formed, formed-well, busy-true, true-busy, usable-formed, usable-core}
+use Rattle.device.proofs.Tests.{and-left, and-right, and-both, cond-of}
+use Rattle.device.proofs.Formed.{sized-true, true-sized, well-formed, formed-well, busy-true, true-busy, usable-formed, usable-core}
 
 -- ---- what may be written
 

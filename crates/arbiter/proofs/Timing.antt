@@ -18,19 +18,19 @@ use Rattle.runs.proofs.SlotsLaws.{equation7-is, equal-lawful}
 use Rattle.runs.proofs.Cases.{split, either}
 use Rattle.refusals.specs.declared.Refusal.{Refusal}
 use Rattle.refusals.specs.declared.Refusal.the-variants.{Register, Busy}
-use Rattle.arbiter.specs.declared.Arbiter.{Arbiter}
+use Rattle.device.specs.declared.Arbiter.{Arbiter}
 use Rattle.arbiter.specs.declared.Outcome.{Outcome}
-use Rattle.arbiter.specs.declared.Registers.{Registers}
+use Rattle.device.specs.declared.Registers.{Registers}
 use Rattle.arbiter.specs.declared.Reply.{Reply}
 use Rattle.arbiter.specs.declared.Reply.the-variants.{Accepted, Refused}
-use Rattle.arbiter.specs.Device.{sized, formed, usable, clear, registersOf, slotsOfCore, startsNow, countDown, stepped, ticked, withRegisters, busy, writable, cleared}
+use Rattle.device.specs.Device.{sized, formed, usable, clear, registersOf, slotsOfCore, startsNow, countDown, stepped, ticked, withRegisters, busy, writable, cleared}
 use Rattle.arbiter.specs.declared.Call.{Call}
 use Rattle.arbiter.specs.declared.Call.the-variants.{Read, Line, Write, Tick, Reset}
 use Rattle.arbiter.specs.Calls.{outcome, after, answer, afterAll, written, refuse, leave}
 use Rattle.arbiter.specs.Sequences.{Reached, fresh, next, resets, NoReset, none, more, writesLength, NoLength, oneIfTick, ticks, Since, DoneOnTime, AsTheClock}
-use Rattle.arbiter.proofs.Tests.{and-left, and-right, and-both, cond-of, same}
-use Rattle.arbiter.proofs.Formed.{formed-true, usable-core}
-use Rattle.arbiter.proofs.Steps.{stepped-is, ticked-formed, cleared-formed}
+use Rattle.device.proofs.Tests.{and-left, and-right, and-both, cond-of, same}
+use Rattle.device.proofs.Formed.{formed-true, usable-core}
+use Rattle.device.proofs.Steps.{stepped-is, ticked-formed, cleared-formed}
 use Rattle.arbiter.proofs.Kept.{read-leaves, line-leaves, Wrote, not-at-all, put-there, Rewritten, waits, keeps, wrote, Frame, frameOf, wrote-frame, wrote-other, tick-leaves, ticked-registers, ticked-length, reset-leaves, reset-refused}
 use Rattle.arbiter.proofs.Reach.{Sane, reached-sane}
 

@@ -6,11 +6,11 @@ use Prim.Native.Nat.{ℕ}
 use Rattle.runs.specs.Slots.{inSlot}
 use Rattle.schedule.specs.Said.{busOk}
 use Rattle.refusals.specs.declared.Refusal.the-variants.{Register, Busy}
-use Rattle.arbiter.specs.declared.Arbiter.{Arbiter}
+use Rattle.device.specs.declared.Arbiter.{Arbiter}
 use Rattle.arbiter.specs.declared.Call.the-variants.{Read, Line, Write, Tick, Reset}
 use Rattle.arbiter.specs.declared.Reply.{Reply}
 use Rattle.arbiter.specs.declared.Reply.the-variants.{Accepted, Value, Refused}
-use Rattle.arbiter.specs.Device.{busy, flagsFit, fits, allFit, formed, usable, withRegisters, registerAt, lineOf, writable, cleared, startsNow, turned, countDown, fallen, steppedFrom, ticked}
+use Rattle.device.specs.Device.{busy, flagsFit, fits, allFit, formed, usable, withRegisters, registerAt, lineOf, writable, cleared, startsNow, turned, countDown, fallen, steppedFrom, ticked}
 use Rattle.arbiter.specs.Calls.{written, outcome, answer, afterAll}
 
 -- the flags of a core whose length was written at an offset, so many ticks later

@@ -6,8 +6,8 @@ use Prim.Native.Nat.{ℕ}
 use Rattle.refusals.specs.Refusals.{numberOf}
 use Rattle.refusals.specs.declared.Refusal.{Refusal}
 use Rattle.refusals.specs.declared.Refusal.the-variants.{Register, Busy}
-use Rattle.arbiter.specs.Device.{sized, formed, usable, registersOf, withRegisters, registerAt, lineOf, writable, busy, cleared, ticked}
-use Rattle.arbiter.specs.declared.Arbiter.{Arbiter}
+use Rattle.device.specs.Device.{sized, formed, usable, registersOf, withRegisters, registerAt, lineOf, writable, busy, cleared, ticked}
+use Rattle.device.specs.declared.Arbiter.{Arbiter}
 use Rattle.arbiter.specs.declared.Call.{Call}
 use Rattle.arbiter.specs.declared.Call.the-variants.{Read, Line, Write, Tick, Reset}
 use Rattle.arbiter.specs.declared.Outcome.{Outcome}

@@ -1,37 +1,11 @@
 -- When a call is refused, in plain terms and with no order of steps: a law says that a call's answer is a refusal if and only if
 -- `RefusedFor` holds (document 02: "New numbers"). Definitions only.
-use mathlib.Core.Path.{_≡_}
-use mathlib.Core.Logic.{_⊎_}
-use Prim.Native.Nat.{ℕ, _*_, _≤_, _<_}
-use Rattle.bus.specs.Waits.{Ranges}
-use Rattle.arbiter.specs.Device.{registersOf}
+use Prim.Native.Nat.{ℕ, _≤_, _<_}
+use Rattle.device.specs.Device.{registersOf}
+use Rattle.device.specs.WellFormed.{Sized, IsBusy, WellFormed}
 use Rattle.arbiter.specs.declared.Call.{Call}
 use Rattle.arbiter.specs.declared.Call.the-variants.{Read, Line, Write, Tick, Reset}
-use Rattle.arbiter.specs.declared.Arbiter.{Arbiter}
-use Rattle.arbiter.specs.declared.Registers.{Registers}
-
--- "in the ranges of tag 1"
-abbrev pub Sized : ℕ → ℕ → Type 0
-Sized cores slot = Ranges (record { cores = cores; slot = slot; core = 0 })
-
--- waiting or running
-abbrev pub IsBusy : Registers → Type 0
-IsBusy r = (r .flags ≡ 1) ⊎ (r .flags ≡ 2)
-
--- one core's registers in range
-pub record Fits (slot : ℕ) (r : Registers) : Type 0 where
-  pub length-most : r .length ≤ slot
-  pub mask-most : r .mask ≤ 1
-  -- "flags not 0, 1, 2 or 4" are out of range
-  pub flags-one : ((r .flags ≡ 0) ⊎ (r .flags ≡ 4)) ⊎ IsBusy r
-  -- so is "a waiting or running length of 0"
-  pub busy-length : IsBusy r → 1 ≤ r .length
-
--- a state with no number out of range; the registers of every core, used or not
-pub record WellFormed (a : Arbiter) : Type 0 where
-  pub size : Sized (a .cores) (a .slot)
-  pub offset-lt : a .offset < a .cores * a .slot
-  pub all-fit : (p : ℕ) → Fits (a .slot) (registersOf a p)
+use Rattle.device.specs.declared.Arbiter.{Arbiter}
 
 -- "a core, register or value out of range (a reset's too), a write to flags"
 pub data Misnamed (a : Arbiter) : Call → Type 0 where

@@ -6,11 +6,11 @@ use lib.Dec.{eqb}
 use Prim.Native.Nat.{ℕ, _+_, _*_, _%_, _≤_, _<_}
 use Rattle.runs.specs.Slots.{equalSlots, equation7}
 use Rattle.runs.specs.Clock.{State, on, offsets, Access}
-use Rattle.arbiter.specs.Device.{sized, registersOf, busy, writable, slotsOfCore}
+use Rattle.device.specs.Device.{sized, registersOf, busy, writable, slotsOfCore}
 use Rattle.arbiter.specs.declared.Call.{Call}
 use Rattle.arbiter.specs.declared.Call.the-variants.{Read, Line, Write, Tick, Reset}
 use Rattle.arbiter.specs.Calls.{after, answer, afterAll}
-use Rattle.arbiter.specs.declared.Arbiter.{Arbiter}
+use Rattle.device.specs.declared.Arbiter.{Arbiter}
 
 -- "states reached by calls from a reset": a reset that is accepted, whatever the state before it, and then any calls, refused ones too
 pub data Reached : Arbiter → Type 0 where

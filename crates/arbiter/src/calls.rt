@@ -1,19 +1,19 @@
 // Each kind of call, with the state by value: the outcome is the state after it and the answer.
 ghost use mathlib.Core.Path.{_≡_};
 ghost use Prim.Native.Nat.{_<_};
-ghost use Rattle.arbiter.specs.Device.{registerAt, lineOf, writable, busy};
+ghost use Rattle.device.specs.Device.{registerAt, lineOf, writable, busy};
 ghost use Rattle.arbiter.specs.declared.Call.the-variants.{Read, Line, Write, Tick, Reset};
 ghost use Rattle.arbiter.specs.Calls.{outcome, written, tell, leave};
-use crate::Arbiter;
+use device::Arbiter;
 use crate::Call;
 use crate::Outcome;
-use crate::Registers;
+use device::Registers;
 use crate::Reply;
-use crate::states::core_ok;
-use crate::states::registers_at;
-use crate::states::state_ok;
-use crate::states::with_registers;
-use crate::ticks::ticked_state;
+use device::states::core_ok;
+use device::states::registers_at;
+use device::states::state_ok;
+use device::states::with_registers;
+use device::ticks::ticked_state;
 use refusals::Refusal;
 
 pub fn refuse(r: Refusal, s: Arbiter) -> Outcome

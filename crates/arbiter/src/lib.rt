@@ -2,7 +2,7 @@
 // has the entries, which are lent the state and name who calls.
 //
 // `calls::on` makes any call and has no `requires`: for every state and every number the answer and the state after it are those that `outcome`
-// (specs/Calls.antt, over specs/Device.antt) names, refused calls too. A call is refused, with 15 or 16 and place 0, if and only if `RefusedFor`
+// (specs/Calls.antt, over specs/Device.antt of crate device) names, refused calls too. A call is refused, with 15 or 16 and place 0, if and only if `RefusedFor`
 // (specs/Conditions.antt) holds, and then the state is as it was (`refused-because`, `refused-whenever` in proofs/Reasons.antt).
 // Wrong answers that this rules out: an access that starts where its slot does not hold it whole, a first cycle that is not counted, done that
 // is kept when a length is written, 16 for a call that 15 refuses, an unused core's registers that are not looked at.
@@ -12,27 +12,11 @@
 // (`one-running` in proofs/Reach.antt); cores and slot are the reset's, and the offset is the number of ticks since it modulo P
 // (`since-reset` in proofs/Timing.antt). From any state: other cores never alter a core's registers or line (`undisturbed` in proofs/Apart.antt).
 //
-// src/: states (what a state may hold), ticks, calls (each kind of call, and any).
+// src/: calls (each kind of call, and any). The state, what it may hold and a tick are crate device.
+use device::Arbiter;
 use refusals::Refusal;
 
 pub mod calls;
-mod states;
-mod ticks;
-
-// One core's registers: 0 length, 1 flags (1 waiting, 2 running, 4 done), 2 interrupt mask.
-pub struct Registers {
-    pub length: u8,
-    pub flags: u8,
-    pub mask: u8,
-}
-
-// The state: the bus's cores and slot length, the offset, and the registers of 16 cores, unused ones too.
-pub struct Arbiter {
-    pub cores: u8,
-    pub slot: u8,
-    pub offset: u8,
-    pub registers: [Registers; 16],
-}
 
 // A call to the arbiter.
 pub enum Call {

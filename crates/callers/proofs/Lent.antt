@@ -20,11 +20,11 @@ use denote.Steps.{opens, closes, owned, peeks, heard, only}
 use denote.Struct.Steps.{spelt}
 use denote.Struct.Laws as LL
 use denote.Enum.Laws as EL
-use Rattle.arbiter.specs.declared.Arbiter.{Arbiter}
+use Rattle.device.specs.declared.Arbiter.{Arbiter}
 use Rattle.arbiter.specs.declared.Outcome.{Outcome}
 use Rattle.arbiter.specs.declared.Reply.{Reply}
-use Rattle.arbiter.proofs.Arbiter as T
-use Rattle.arbiter.proofs.Arbiter.Laws as T′
+use Rattle.device.proofs.Arbiter as T
+use Rattle.device.proofs.Arbiter.Laws as T′
 use Rattle.arbiter.proofs.Outcome as O
 use Rattle.arbiter.proofs.Outcome.Laws as O′
 use Rattle.arbiter.proofs.Reply as E

@@ -10,17 +10,17 @@ use lib.ListN.{length}
 use Prim.Native.Nat.{ℕ, _<_}
 use Rattle.runs.proofs.Cases.{either}
 use Rattle.refusals.specs.declared.Refusal.the-variants.{Forbidden}
-use Rattle.arbiter.specs.declared.Arbiter.{Arbiter}
+use Rattle.device.specs.declared.Arbiter.{Arbiter}
 use Rattle.arbiter.specs.declared.Outcome.{Outcome}
 use Rattle.arbiter.specs.declared.Call.{Call}
 use Rattle.arbiter.specs.declared.Call.the-variants.{Read, Line, Write, Tick, Reset}
-use Rattle.arbiter.specs.Device.{sized}
+use Rattle.device.specs.Device.{sized}
 use Rattle.arbiter.specs.Calls.{outcome, refuse, after, afterAll, refused, told}
 use Rattle.callers.specs.Callers.{isOwn, isWorkshop, mayRead, hasRight, outcomeBy, afterBy, answerBy, Asked, afterAllBy, permitted}
 use Rattle.callers.specs.Conditions.{Right, own-register, own-line, own-write, every-register, every-line, workshop-ticks, workshop-resets, RefusedBy, forbidden, despite-right}
 use Rattle.callers.specs.Promise.{Answers}
 use Rattle.arbiter.specs.Sequences.{Reached, fresh}
-use Rattle.arbiter.proofs.Tests.{and-left, and-right, and-both}
+use Rattle.device.proofs.Tests.{and-left, and-right, and-both}
 use Rattle.arbiter.proofs.Reasons.{refused-because, refused-whenever}
 use Rattle.arbiter.proofs.Kept.{sixteen}
 use Rattle.arbiter.proofs.Reach.{reached-all}

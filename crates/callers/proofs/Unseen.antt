@@ -8,16 +8,16 @@ use lib.Dec.{eqb}
 use Prim.Native.Nat.{ℕ, _<_}
 use Rattle.runs.proofs.Cases.{either}
 use Rattle.refusals.specs.declared.Refusal.the-variants.{Forbidden}
-use Rattle.arbiter.specs.declared.Arbiter.{Arbiter}
+use Rattle.device.specs.declared.Arbiter.{Arbiter}
 use Rattle.arbiter.specs.declared.Call.{Call}
 use Rattle.arbiter.specs.declared.Call.the-variants.{Reset}
 use Rattle.arbiter.specs.declared.Outcome.{Outcome}
 use Rattle.arbiter.specs.declared.Reply.{Reply}
-use Rattle.arbiter.specs.Device.{sized, cleared}
+use Rattle.device.specs.Device.{sized, cleared}
 use Rattle.arbiter.specs.Calls.{outcome, after, answer, refuse}
 use Rattle.callers.specs.Callers.{hasRight, outcomeBy, afterBy, answerBy, Asked, answersTo, drives, concernsBy, concerningBy}
 use Rattle.callers.specs.Conditions.{Right, own-register, own-line, own-write, every-register, every-line, workshop-ticks, workshop-resets}
-use Rattle.arbiter.proofs.Tests.{or-right, or-first, same}
+use Rattle.device.proofs.Tests.{or-right, or-first, same}
 use Rattle.arbiter.proofs.Kept.{read-leaves, line-leaves, reset-leaves}
 use Rattle.arbiter.proofs.Apart.{Same, same-refl, same-trans, same-sym, same-path, other, each, read-same, line-same, write-same}
 use Rattle.callers.proofs.Rights.{right-if, with-right, without-right, reset-by}

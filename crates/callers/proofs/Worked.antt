@@ -5,7 +5,7 @@ use Rattle.schedule.specs.Said.{busOk}
 use Rattle.refusals.specs.declared.Refusal.the-variants.{Register, Forbidden}
 use Rattle.arbiter.specs.declared.Call.the-variants.{Read, Line, Write, Tick, Reset}
 use Rattle.arbiter.specs.declared.Reply.the-variants.{Accepted, Value, Refused}
-use Rattle.arbiter.specs.Device.{busy, flagsFit, fits, allFit, formed, usable, registerAt, lineOf, writable, cleared, startsNow, turned, countDown, fallen, steppedFrom, ticked}
+use Rattle.device.specs.Device.{busy, flagsFit, fits, allFit, formed, usable, registerAt, lineOf, writable, cleared, startsNow, turned, countDown, fallen, steppedFrom, ticked}
 use Rattle.arbiter.specs.Calls.{written, outcome, afterAll}
 use Rattle.arbiter.proofs.Worked.{waiting, with-core}
 use Rattle.callers.specs.Callers.{isOwn, hasRight, outcomeBy, answerBy}

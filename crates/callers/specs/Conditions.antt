@@ -1,7 +1,7 @@
 -- When a caller's call is refused, in plain terms: the promise of each entry says that its answer is a refusal if and only if `RefusedBy` holds
 -- (document 02: "New numbers"). Definitions only.
 use Prim.Native.Nat.{ℕ, _<_}
-use Rattle.arbiter.specs.declared.Arbiter.{Arbiter}
+use Rattle.device.specs.declared.Arbiter.{Arbiter}
 use Rattle.arbiter.specs.declared.Call.{Call}
 use Rattle.arbiter.specs.declared.Call.the-variants.{Read, Line, Write, Tick, Reset}
 use Rattle.arbiter.specs.Conditions.{RefusedFor}

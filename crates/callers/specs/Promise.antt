@@ -4,7 +4,7 @@ use Prim.Native.Nat.{ℕ}
 use Rattle.arbiter.specs.declared.Call.{Call}
 use Rattle.callers.specs.Callers.{afterBy, answerBy}
 use Rattle.callers.specs.Conditions.{RefusedBy}
-use Rattle.arbiter.specs.declared.Arbiter.{Arbiter}
+use Rattle.device.specs.declared.Arbiter.{Arbiter}
 use Rattle.arbiter.specs.declared.Reply.{Reply}
 use Rattle.arbiter.specs.Calls.{told, refused}
 

@@ -14,7 +14,7 @@ ghost use mathlib.Core.Path.{_≡_};
 ghost use Rattle.arbiter.specs.declared.Call.the-variants.{Read, Line, Write, Tick, Reset};
 ghost use Rattle.callers.specs.Callers.{isOwn, mayRead, hasRight, outcomeBy};
 ghost use Rattle.callers.specs.Promise.{Answers};
-use arbiter::Arbiter;
+use device::Arbiter;
 use arbiter::Call;
 use arbiter::Outcome;
 use arbiter::Reply;

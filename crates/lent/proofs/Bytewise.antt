@@ -13,7 +13,7 @@ use Rattle.schedule.proofs.Numbers.{both}
 use Rattle.arbiter.specs.declared.Call.{Call}
 use Rattle.arbiter.specs.Calls.{after, answer, Told, done, refused, told}
 use Rattle.callers.specs.Callers.{outcomeBy, afterBy, answerBy, afterAllBy, answersTo, concerningBy}
-use Rattle.arbiter.specs.Device.{sized}
+use Rattle.device.specs.Device.{sized}
 use Rattle.callers.specs.Conditions.{RefusedBy}
 use Rattle.callers.specs.Promise.{Answers}
 use Rattle.arbiter.specs.Sequences.{Reached}
@@ -22,7 +22,7 @@ use Rattle.callers.proofs.Unseen.{same-answers}
 use Rattle.runs.proofs.Cases.{either}
 use Rattle.lent.proofs.Packing.{state-again, there-and-back, bytes-length, cores-length}
 use Rattle.lent.specs.Bytes.{bytesOf, stateOf}
-use Rattle.arbiter.specs.declared.Arbiter.{Arbiter}
+use Rattle.device.specs.declared.Arbiter.{Arbiter}
 use Rattle.arbiter.specs.declared.Outcome.{Outcome}
 use Rattle.arbiter.specs.declared.Reply.{Reply}
 use Rattle.arbiter.specs.declared.Reply.the-variants.{Accepted, Value, Refused}

@@ -6,9 +6,9 @@ use native.Mathlib.Omega.{arith}
 use lib.ListN.{length, getD, set, take, drop, length-set}
 use lib.Seq.{take-suc, take-suc-set, take-all}
 use Prim.Native.Nat.{ℕ, zero, suc, _+_, _*_, _≤_, _<_}
-use Rattle.arbiter.specs.declared.Arbiter.{Arbiter}
-use Rattle.arbiter.specs.declared.Registers.{Registers}
-use Rattle.arbiter.specs.Device.{clear}
+use Rattle.device.specs.declared.Arbiter.{Arbiter}
+use Rattle.device.specs.declared.Registers.{Registers}
+use Rattle.device.specs.Device.{clear}
 use Rattle.lent.specs.Bytes.{flat, bytesOf, registersIn, stateOf}
 
 -- ---- there and back

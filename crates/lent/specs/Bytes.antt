@@ -2,8 +2,8 @@
 -- Definitions only.
 use mathlib.Core.List.{List, [], _∷_}
 use lib.ListN.{getD, drop}
-use Rattle.arbiter.specs.declared.Arbiter.{Arbiter}
-use Rattle.arbiter.specs.declared.Registers.{Registers}
+use Rattle.device.specs.declared.Arbiter.{Arbiter}
+use Rattle.device.specs.declared.Registers.{Registers}
 use Prim.Native.Nat.{ℕ}
 
 -- three bytes for each core, one after the other

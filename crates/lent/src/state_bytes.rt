@@ -3,8 +3,8 @@ ghost use mathlib.Core.Path.{_≡_};
 ghost use lib.ListN.{length, set};
 ghost use Prim.Native.Nat.{_+_, _≤_};
 ghost use Rattle.lent.specs.Bytes.{bytesOf, stateOf};
-use arbiter::Arbiter;
-use arbiter::Registers;
+use device::Arbiter;
+use device::Registers;
 
 // How many bytes a state has.
 pub const BYTES: usize = 51;

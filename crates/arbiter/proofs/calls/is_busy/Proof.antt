@@ -1,5 +1,5 @@
 use borrow.Author.Tests.{eq-eqb, ne-eqb}
-use Rattle.arbiter.specs.Device.{busy}
+use Rattle.device.specs.Device.{busy}
 use Rattle.arbiter.proofs.calls.is_busy.Statement.{statement}
 use Rattle.arbiter.proofs.calls.is_busy.Tie as tie
 

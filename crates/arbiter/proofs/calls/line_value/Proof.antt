@@ -1,6 +1,6 @@
 use native.Mathlib.Omega.{arith}
 use borrow.Author.Tests.{eq-eqb, ne-eqb}
-use Rattle.arbiter.specs.Device.{lineOf}
+use Rattle.device.specs.Device.{lineOf}
 use Rattle.arbiter.proofs.calls.line_value.Statement.{statement}
 use Rattle.arbiter.proofs.calls.line_value.Tie as tie
 

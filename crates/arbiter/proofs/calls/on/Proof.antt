@@ -1,7 +1,7 @@
 -- Each case of the call is the function for it.
 use borrow.Author.Needs.{needs}
 use mathlib.Core.Path.{_≡_, sym, _∙_, ap}
-use Rattle.arbiter.specs.declared.Arbiter.{Arbiter}
+use Rattle.device.specs.declared.Arbiter.{Arbiter}
 use Rattle.arbiter.specs.declared.Outcome.{Outcome}
 use Rattle.arbiter.specs.declared.Call.{Call}
 use Rattle.arbiter.specs.Calls.{outcome}

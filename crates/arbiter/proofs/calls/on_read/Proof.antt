@@ -1,7 +1,7 @@
 use mathlib.Core.Path.{sym, _∙_}
 use borrow.Author.Tests.{lt-ltb, le-ltb, not-true, not-false}
 use Rattle.arbiter.specs.Calls.{outcome}
-use Rattle.arbiter.proofs.Formed.{usable-lt}
+use Rattle.device.proofs.Formed.{usable-lt}
 use borrow.Author.Needs.{needs}
 use Rattle.arbiter.proofs.calls.on_read.Statement.{statement}
 use Rattle.arbiter.proofs.calls.on_read.Tie as tie

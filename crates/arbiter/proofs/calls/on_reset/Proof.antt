@@ -3,9 +3,9 @@ use mathlib.Core.Path.{sym, _∙_}
 use native.Mathlib.Omega.{arith}
 use borrow.Author.Needs.{needs}
 use borrow.Author.Tests.{not-true, not-false}
-use Rattle.arbiter.specs.Device.{cleared}
+use Rattle.device.specs.Device.{cleared}
 use Rattle.arbiter.specs.Calls.{outcome}
-use Rattle.arbiter.proofs.Formed.{sized-true}
+use Rattle.device.proofs.Formed.{sized-true}
 use Rattle.arbiter.proofs.calls.on_reset.Statement.{statement}
 use Rattle.arbiter.proofs.calls.on_reset.Tie as tie
 

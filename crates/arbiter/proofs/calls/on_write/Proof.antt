@@ -7,11 +7,11 @@ use borrow.Author.Tests.{not-true, not-false, leb-true}
 use lib.Dec.{leb, eqb}
 use Prim.Native.Nat.{ℕ, _<_}
 use Rattle.runs.proofs.Cases.{either}
-use Rattle.arbiter.specs.declared.Arbiter.{Arbiter}
-use Rattle.arbiter.specs.Device.{usable, writable}
+use Rattle.device.specs.declared.Arbiter.{Arbiter}
+use Rattle.device.specs.Device.{usable, writable}
 use Rattle.arbiter.specs.Calls.{outcome}
-use Rattle.arbiter.proofs.Tests.{and-right}
-use Rattle.arbiter.proofs.Formed.{formed-true, usable-formed, usable-lt}
+use Rattle.device.proofs.Tests.{and-right}
+use Rattle.device.proofs.Formed.{formed-true, usable-formed, usable-lt}
 use Rattle.arbiter.proofs.calls.on_write.Statement.{statement}
 use Rattle.arbiter.proofs.calls.on_write.Tie as tie
 

@@ -1,6 +1,6 @@
 use mathlib.Core.Path.{refl}
 use borrow.Author.Tests.{ne-eqb}
-use Rattle.arbiter.specs.Device.{registerAt}
+use Rattle.device.specs.Device.{registerAt}
 use Rattle.arbiter.proofs.calls.register_value.Statement.{statement}
 use Rattle.arbiter.proofs.calls.register_value.Tie as tie
 

@@ -6,9 +6,9 @@ use borrow.Author.Tests.{eq-eqb, ne-eqb}
 use lib.Dec.{eqb}
 use Prim.Native.Nat.{ℕ}
 use Rattle.refusals.specs.declared.Refusal.the-variants.{Busy}
-use Rattle.arbiter.specs.declared.Arbiter.{Arbiter}
-use Rattle.arbiter.specs.declared.Registers.{Registers}
-use Rattle.arbiter.specs.Device.{busy, registersOf, withRegisters}
+use Rattle.device.specs.declared.Arbiter.{Arbiter}
+use Rattle.device.specs.declared.Registers.{Registers}
+use Rattle.device.specs.Device.{busy, registersOf, withRegisters}
 use Rattle.arbiter.specs.Calls.{refuse, leave, written}
 use Rattle.arbiter.proofs.calls.store.Statement.{statement}
 use Rattle.arbiter.proofs.calls.store.Tie as tie

@@ -1,6 +1,6 @@
 use mathlib.Core.Path.{refl}
 use borrow.Author.Tests.{le-leb, lt-leb, ne-eqb}
-use Rattle.arbiter.specs.Device.{writable}
+use Rattle.device.specs.Device.{writable}
 use Rattle.arbiter.proofs.calls.value_ok.Statement.{statement}
 use Rattle.arbiter.proofs.calls.value_ok.Tie as tie
 

@@ -4,9 +4,9 @@ use mathlib.Core.List.{_++_, append-nil}
 use native.Mathlib.Omega.{arith}
 use lib.ListN.{length, getD, take}
 use Prim.Native.Nat.{_+_, _-_, _*_, _≤_}
-use Rattle.arbiter.specs.Device.{clear}
+use Rattle.device.specs.Device.{clear}
 use Rattle.lent.specs.Bytes.{flat}
-use Rattle.arbiter.proofs.Long.{long}
+use Rattle.device.proofs.Long.{long}
 use Rattle.lent.proofs.Packing.{three, length-three, core-set, all-set}
 use Rattle.lent.proofs.state_bytes.put_state.Statement.{statement}
 use Rattle.lent.proofs.state_bytes.put_state.Tie as tie

@@ -4,8 +4,8 @@ use native.Mathlib.Omega.{arith}
 use lib.ListN.{length, getD, set, take, drop, length-set, length-replicate}
 use lib.Seq.{take-all}
 use Prim.Native.Nat.{ℕ, _+_, _-_, _*_, _≤_}
-use Rattle.arbiter.specs.declared.Registers.{Registers}
-use Rattle.arbiter.specs.Device.{clear}
+use Rattle.device.specs.declared.Registers.{Registers}
+use Rattle.device.specs.Device.{clear}
 use Rattle.lent.specs.Bytes.{registersIn, stateOf}
 use Rattle.lent.proofs.Packing.{coreAt, cores-length, core-said, taken-set}
 use Rattle.lent.proofs.state_bytes.state_of.Statement.{statement}

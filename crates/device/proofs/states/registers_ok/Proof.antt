@@ -7,11 +7,11 @@ use borrow.Author.Tests.{le-leb, lt-leb, ne-eqb}
 use lib.Dec.{leb}
 use Prim.Native.Nat.{_≤_, _<_}
 use Rattle.runs.proofs.Cases.{split}
-use Rattle.arbiter.specs.declared.Registers.{Registers}
-use Rattle.arbiter.specs.Device.{fits, flagsFit, busy}
-use Rattle.arbiter.proofs.Tests.{same}
-use Rattle.arbiter.proofs.states.registers_ok.Statement.{statement}
-use Rattle.arbiter.proofs.states.registers_ok.Tie as tie
+use Rattle.device.specs.declared.Registers.{Registers}
+use Rattle.device.specs.Device.{fits, flagsFit, busy}
+use Rattle.device.proofs.Tests.{same}
+use Rattle.device.proofs.states.registers_ok.Statement.{statement}
+use Rattle.device.proofs.states.registers_ok.Tie as tie
 
 -- the arms of the match: 1 or 2, and any other number
 busy-arm : (r : Registers) → ((r .flags ≡ 0) ⊎ (r .flags ≡ 4) → ⊥) → r .flags < 3 → flagsFit r ≡ leb 1 (r .length)

@@ -1,7 +1,7 @@
 // What a state may hold (15), and the registers of one core.
 ghost use mathlib.Core.Path.{_≡_};
 ghost use Prim.Native.Nat.{_<_};
-ghost use Rattle.arbiter.specs.Device.{fits, allFit, formed, usable, registersOf, withRegisters};
+ghost use Rattle.device.specs.Device.{fits, allFit, formed, usable, registersOf, withRegisters};
 use crate::Arbiter;
 use crate::Registers;
 

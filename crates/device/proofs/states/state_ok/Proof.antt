@@ -3,9 +3,9 @@ use mathlib.Core.Path.{sym, _∙_}
 use native.Mathlib.Omega.{arith}
 use borrow.Author.Needs.{needs}
 use borrow.Author.Tests.{not-true, not-false}
-use Rattle.arbiter.proofs.Formed.{sized-true, size-bad, offset-bad, formed-fit}
-use Rattle.arbiter.proofs.states.state_ok.Statement.{statement}
-use Rattle.arbiter.proofs.states.state_ok.Tie as tie
+use Rattle.device.proofs.Formed.{sized-true, size-bad, offset-bad, formed-fit}
+use Rattle.device.proofs.states.state_ok.Statement.{statement}
+use Rattle.device.proofs.states.state_ok.Tie as tie
 
 cast-cores : tie.Need-cast-cores
 cast-cores c = search needs

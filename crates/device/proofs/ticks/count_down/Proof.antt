@@ -1,8 +1,8 @@
 use borrow.Author.Needs.{needs}
 use borrow.Author.Tests.{le-leb, lt-leb}
-use Rattle.arbiter.specs.Device.{countDown}
-use Rattle.arbiter.proofs.ticks.count_down.Statement.{statement}
-use Rattle.arbiter.proofs.ticks.count_down.Tie as tie
+use Rattle.device.specs.Device.{countDown}
+use Rattle.device.proofs.ticks.count_down.Statement.{statement}
+use Rattle.device.proofs.ticks.count_down.Tie as tie
 
 returns : tie.Need-returns
 unfolding countDown

@@ -6,8 +6,8 @@ use lib.ListN.{getD, set, replicate}
 use Prim.Native.Nat.{ℕ, suc, _+_, _-_, _*_, _%_}
 use Rattle.runs.specs.Slots.{Slots, inSlot}
 use Rattle.schedule.specs.Said.{busOk}
-use Rattle.arbiter.specs.declared.Arbiter.{Arbiter}
-use Rattle.arbiter.specs.declared.Registers.{Registers}
+use Rattle.device.specs.declared.Arbiter.{Arbiter}
+use Rattle.device.specs.declared.Registers.{Registers}
 
 -- ---- what a state may hold
 

@@ -5,12 +5,12 @@ use native.Mathlib.Omega.{arith}
 use borrow.Author.Needs.{needs}
 use lib.ListN.{length, length-set}
 use Prim.Native.Nat.{_+_, _-_, _*_, _≤_, _<_}
-use Rattle.arbiter.specs.Device.{steppedFrom, ticked}
-use Rattle.arbiter.proofs.Formed.{formed-true}
-use Rattle.arbiter.proofs.Long.{long}
-use Rattle.arbiter.proofs.Sweeps.{swept, swept-more, swept-all}
-use Rattle.arbiter.proofs.ticks.ticked_state.Statement.{statement}
-use Rattle.arbiter.proofs.ticks.ticked_state.Tie as tie
+use Rattle.device.specs.Device.{steppedFrom, ticked}
+use Rattle.device.proofs.Formed.{formed-true}
+use Rattle.device.proofs.Long.{long}
+use Rattle.device.proofs.Sweeps.{swept, swept-more, swept-all}
+use Rattle.device.proofs.ticks.ticked_state.Statement.{statement}
+use Rattle.device.proofs.ticks.ticked_state.Tie as tie
 
 abbrev Inv-loop : tie.InvT-loop
 Inv-loop s cores slot offset registers₀ i₀ registers i =

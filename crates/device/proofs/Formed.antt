@@ -9,11 +9,11 @@ use lib.Dec.{leb, ltb, eqb}
 use lib.ListN.{getD}
 use Prim.Native.Nat.{ℕ, zero, suc, _*_, _≤_, _<_}
 use Rattle.schedule.proofs.Sayings.{ranges-kept, kept-ranges}
-use Rattle.arbiter.specs.declared.Arbiter.{Arbiter}
-use Rattle.arbiter.specs.declared.Registers.{Registers}
-use Rattle.arbiter.specs.Device.{sized, busy, flagsFit, fits, allFit, formed, usable, clear, registersOf}
-use Rattle.arbiter.specs.Conditions.{Sized, IsBusy, Fits, WellFormed}
-use Rattle.arbiter.proofs.Tests.{and-left, and-right, and-both, or-cases, or-first, or-second}
+use Rattle.device.specs.declared.Arbiter.{Arbiter}
+use Rattle.device.specs.declared.Registers.{Registers}
+use Rattle.device.specs.Device.{sized, busy, flagsFit, fits, allFit, formed, usable, clear, registersOf}
+use Rattle.device.specs.WellFormed.{Sized, IsBusy, Fits, WellFormed}
+use Rattle.device.proofs.Tests.{and-left, and-right, and-both, or-cases, or-first, or-second}
 
 -- the ranges of tag 1
 pub sized-true : (cores slot : ℕ) → sized cores slot ≡ true → Sized cores slot

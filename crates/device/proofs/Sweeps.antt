@@ -7,9 +7,9 @@ use native.Mathlib.Omega.{arith}
 use lib.ListN.{length, getD, set, take, drop, drop-of-length-le}
 use lib.Seq.{drop-cons, take-suc-set, drop-set-lt, take-all}
 use Prim.Native.Nat.{ℕ, suc, _+_, _≤_, _<_}
-use Rattle.arbiter.specs.declared.Arbiter.{Arbiter}
-use Rattle.arbiter.specs.declared.Registers.{Registers}
-use Rattle.arbiter.specs.Device.{fits, allFit, clear, slotsOfCore, stepped, steppedFrom}
+use Rattle.device.specs.declared.Arbiter.{Arbiter}
+use Rattle.device.specs.declared.Registers.{Registers}
+use Rattle.device.specs.Device.{fits, allFit, clear, slotsOfCore, stepped, steppedFrom}
 
 pub fit-more : (slot : ℕ) (rs : List Registers) (i : ℕ) → i < length rs → allFit slot (drop i rs) ≡ (fits slot (getD rs i clear) && allFit slot (drop (i + 1) rs))
 unfolding allFit

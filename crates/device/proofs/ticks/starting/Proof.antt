@@ -7,10 +7,10 @@ use borrow.Author.Tests.{le-leb, lt-leb, eq-eqb, ne-eqb}
 use Prim.Native.Nat.{ℕ, _*_, _≤_}
 use Rattle.bus.specs.declared.Slots.{Slots}
 use Rattle.runs.specs.Slots.{inSlot}
-use Rattle.arbiter.specs.Device.{startsNow}
-use Rattle.arbiter.specs.Steps.{Small}
-use Rattle.arbiter.proofs.ticks.starting.Statement.{statement}
-use Rattle.arbiter.proofs.ticks.starting.Tie as tie
+use Rattle.device.specs.Device.{startsNow}
+use Rattle.device.specs.Steps.{Small}
+use Rattle.device.proofs.ticks.starting.Statement.{statement}
+use Rattle.device.proofs.ticks.starting.Tie as tie
 
 first-most : (b : Slots) (offset : ℕ) → Small b offset → b .core * b .slot ≤ 16 * 128
 first-most b offset t = let h : b .core ≤ 16 = omega (arith, t .core-lt) in mul-le-mul h (t .slot-most)

@@ -10,11 +10,11 @@ use lib.ListN.{length, getD, set, replicate}
 use Prim.Native.Nat.{ℕ, zero, suc, _+_, _-_, _*_, _≤_, _<_}
 use Rattle.runs.specs.Slots.{Slots}
 use Rattle.runs.proofs.Cases.{split, either}
-use Rattle.arbiter.specs.declared.Arbiter.{Arbiter}
-use Rattle.arbiter.specs.declared.Registers.{Registers}
-use Rattle.arbiter.specs.Device.{sized, busy, fits, flagsFit, allFit, formed, clear, slotsOfCore, startsNow, turned, countDown, fallen, stepped, steppedFrom, ticked, cleared, withRegisters}
-use Rattle.arbiter.proofs.Tests.{and-left, and-right, and-both}
-use Rattle.arbiter.proofs.Formed.{clear-fits, formed-true, formed-make, sized-true}
+use Rattle.device.specs.declared.Arbiter.{Arbiter}
+use Rattle.device.specs.declared.Registers.{Registers}
+use Rattle.device.specs.Device.{sized, busy, fits, flagsFit, allFit, formed, clear, slotsOfCore, startsNow, turned, countDown, fallen, stepped, steppedFrom, ticked, cleared, withRegisters}
+use Rattle.device.proofs.Tests.{and-left, and-right, and-both}
+use Rattle.device.proofs.Formed.{clear-fits, formed-true, formed-make, sized-true}
 
 -- one that starts, and one that is running, counts down; any other stays
 pub stepped-is : (v : Slots) (o : ℕ) (r : Registers) → stepped v o r ≡ cond (startsNow v o r || eqb (r .flags) 2) (countDown r) r

@@ -2,10 +2,10 @@
 use mathlib.Core.Path.{_≡_, _∙_, ap}
 use borrow.Author.Needs.{needs}
 use borrow.Author.Tests.{eq-eqb, ne-eqb}
-use Rattle.arbiter.specs.declared.Registers.{Registers}
-use Rattle.arbiter.specs.Device.{countDown, fallen}
-use Rattle.arbiter.proofs.ticks.step.Statement.{statement}
-use Rattle.arbiter.proofs.ticks.step.Tie as tie
+use Rattle.device.specs.declared.Registers.{Registers}
+use Rattle.device.specs.Device.{countDown, fallen}
+use Rattle.device.proofs.ticks.step.Statement.{statement}
+use Rattle.device.proofs.ticks.step.Tie as tie
 
 runs : (t : Registers) → t .flags ≡ 2 → countDown t ≡ fallen t
 unfolding fallen

@@ -1,9 +1,9 @@
 use mathlib.Core.Path.{sym, _∙_}
 use borrow.Author.Tests.{not-true, not-false}
-use Rattle.arbiter.specs.Device.{usable}
+use Rattle.device.specs.Device.{usable}
 use borrow.Author.Needs.{needs}
-use Rattle.arbiter.proofs.states.core_ok.Statement.{statement}
-use Rattle.arbiter.proofs.states.core_ok.Tie as tie
+use Rattle.device.proofs.states.core_ok.Statement.{statement}
+use Rattle.device.proofs.states.core_ok.Tie as tie
 
 state-ok-requires : tie.Need-state-ok-requires
 state-ok-requires c κs = search needs

@@ -1,8 +1,8 @@
 use mathlib.Core.Path.{sym, _∙_}
 use borrow.Author.Needs.{needs}
-use Rattle.arbiter.specs.Device.{turned}
-use Rattle.arbiter.proofs.ticks.turn.Statement.{statement}
-use Rattle.arbiter.proofs.ticks.turn.Tie as tie
+use Rattle.device.specs.Device.{turned}
+use Rattle.device.proofs.ticks.turn.Statement.{statement}
+use Rattle.device.proofs.ticks.turn.Tie as tie
 
 starting-requires : tie.Need-starting-requires
 starting-requires c κs = search needs

@@ -5,11 +5,11 @@ use borrow.Author.Needs.{needs}
 use borrow.Author.Tests.{not-true, not-false}
 use lib.ListN.{length, drop}
 use Prim.Native.Nat.{_-_, _≤_, _<_}
-use Rattle.arbiter.specs.Device.{allFit}
-use Rattle.arbiter.proofs.Long.{long}
-use Rattle.arbiter.proofs.Sweeps.{fit-more, fit-end}
-use Rattle.arbiter.proofs.states.all_ok.Statement.{statement}
-use Rattle.arbiter.proofs.states.all_ok.Tie as tie
+use Rattle.device.specs.Device.{allFit}
+use Rattle.device.proofs.Long.{long}
+use Rattle.device.proofs.Sweeps.{fit-more, fit-end}
+use Rattle.device.proofs.states.all_ok.Statement.{statement}
+use Rattle.device.proofs.states.all_ok.Tie as tie
 
 abbrev Inv-loop : tie.InvT-loop
 Inv-loop slot registers i₀ i = (length registers ≡ 16) × (i ≤ 16) × (allFit slot (drop i registers) ≡ allFit slot registers)

@@ -2,8 +2,8 @@
 ghost use mathlib.Core.Path.{_≡_};
 ghost use mathlib.Core.Bool.{true};
 ghost use Rattle.bus.specs.Waits.{slotsOf};
-ghost use Rattle.arbiter.specs.Device.{formed, startsNow, turned, countDown, stepped, ticked};
-ghost use Rattle.arbiter.specs.Steps.{Small};
+ghost use Rattle.device.specs.Device.{formed, startsNow, turned, countDown, stepped, ticked};
+ghost use Rattle.device.specs.Steps.{Small};
 use crate::Arbiter;
 use crate::Registers;
 use bus::Slots;

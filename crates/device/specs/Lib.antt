@@ -1,0 +1,3 @@
+pub mod Device
+pub mod WellFormed
+pub mod Steps
