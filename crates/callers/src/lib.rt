@@ -14,12 +14,12 @@ ghost use mathlib.Core.Path.{_≡_};
 ghost use Rattle.arbiter.specs.declared.Call.the-variants.{Read, Line, Write, Tick, Reset};
 ghost use Rattle.callers.specs.Callers.{isOwn, mayRead, hasRight, outcomeBy};
 ghost use Rattle.callers.specs.Promise.{Answers};
-use device::Arbiter;
 use arbiter::Call;
 use arbiter::Outcome;
 use arbiter::Reply;
 use arbiter::calls::on;
 use arbiter::calls::refuse;
+use device::Arbiter;
 use refusals::Refusal;
 
 // The caller that is no core.
