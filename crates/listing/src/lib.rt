@@ -7,6 +7,7 @@ ghost use mathlib.Core.Path.{_≡_};
 ghost use Rattle.text.specs.Buffer.{intoBuffer};
 ghost use Rattle.listing.specs.Listings.{listingOf};
 use answers::Answer;
+use refusals::number;
 use text::Written;
 
 pub fn listing(image: &[u8], out: &mut [u8]) -> Written
@@ -15,11 +16,7 @@ pub fn listing(image: &[u8], out: &mut [u8]) -> Written
     let mut table = [18446744073709551615u64; 256];
     let answer = figures::figures(image, &mut table);
     match answer {
-        Answer::Refused(r, place) => text::list_refused(
-            refusals::number(r) as u64,
-            place as u64,
-            out,
-        ),
+        Answer::Refused(r, place) => text::list_refused(number(r) as u64, place as u64, out),
         Answer::Given(f) => text::list_figures(f.tight, f.published, f.exits, 256, &table, out),
     }
 }
