@@ -4,7 +4,6 @@ use mathlib.Core.Bool.{Bool, true, false, cond}
 use mathlib.Core.List.{List, _++_}
 use lib.ListN.{length, drop}
 use lib.Dec.{ltb}
-use borrow.Author.Tests.{le-ltb}
 use native.Mathlib.Omega.{arith}
 use Prim.Native.Nat.{ℕ, _+_, _-_, _*_, _≤_}
 use Rattle.runs.specs.Nodes.{Node}
@@ -28,8 +27,9 @@ use Rattle.image.proofs.EitherWay.{instead, same-said}
 use Rattle.rows.proofs.Kept.{slots-row}
 use Rattle.image.proofs.Reasons.{when-accepted}
 use Rattle.image.proofs.Sounds.{ranged-kept, accepted}
-use Rattle.answers.specs.Answers.{given, refused, figuresOf, afterJudging, answer, tableFor, tableAfter}
+use Rattle.answers.specs.Answers.{given, refused, afterJudging, answer, tableFor, tableAfter}
 use Rattle.answers.specs.EitherWay.{answerMoved, EitherWay, EqualAnswers}
+use Rattle.answers.proofs.Promises.{figures-given}
 
 module _ (v : Slots) (h : Ranges v) (rest table : List ℕ) where
   abbrev one : List ℕ
@@ -103,15 +103,12 @@ module _ (s table : List ℕ) (k : Outline) (ok : judged s ≡ Accepted k) (tag 
       let (six, three) = slots-row s (when-accepted s k ok .complete .passed 0 (omega arith)) tag in
       split-off s six tag three
 
-  figures-given : k .period ≤ length table → answer s table ≡ figuresOf (taskOf s k)
-  figures-given l = rw (ok, le-ltb (length table) (k .period) l)
-
   pub equal-answers : EqualAnswers s k table
   equal-answers =
       let d = 2 * byteAt s 3 - 2 in
       record {
         verdict = both .verdict ∙ ap (λ (x : List ℕ). moved d (judged x)) same-image ∙ ap (moved d) ok;
         answers = λ l.
-            both .answers ∙ ap (λ (x : List ℕ). answerMoved d (answer x table)) same-image ∙ ap (answerMoved d) (figures-given l) ∙ sym (figures-given l);
+            both .answers ∙ ap (λ (x : List ℕ). answerMoved d (answer x table)) same-image ∙ ap (answerMoved d) (figures-given s table k ok l) ∙ sym (figures-given s table k ok l);
         tables = both .tables ∙ ap (λ (x : List ℕ). tableAfter x table) same-image;
       }

@@ -1,5 +1,5 @@
 -- The three parts of the entry's promise: equality, of a refusal by judging; both demands, from equality alone.
-use mathlib.Core.Path.{_≡_, refl}
+use mathlib.Core.Path.{_≡_, refl, ap}
 use mathlib.Core.Bool.{Bool, true, false, cond}
 use mathlib.Core.List.{List}
 use lib.ListN.{length}
@@ -21,7 +21,7 @@ use Rattle.image.proofs.Sounds.{ranged-kept, accepted}
 use Rattle.answers.specs.declared.Totals.{Totals}
 use Rattle.answers.specs.declared.Answer.{Answer}
 use Rattle.answers.specs.declared.Answer.the-variants.{Given, Refused as NotGiven}
-use Rattle.answers.specs.Answers.{resultOf, given, refused, figuresOf, filled, afterJudging, tableFor}
+use Rattle.answers.specs.Answers.{Result, resultOf, answer, given, refused, figuresOf, filled, afterJudging, tableFor}
 use Rattle.answers.specs.WholeRuns.{WholeRuns}
 use Rattle.answers.specs.Promise.{Equal, Demand3, Demand2}
 use Rattle.answers.proofs.Whole.{whole-runs}
@@ -43,9 +43,17 @@ whole : (z : Bool) (t : Task) (P n place : ℕ) (before : List ℕ) (tightest mo
     → given tightest most exits ≡ cond z (refused n place) (figuresOf t) → after ≡ cond z before (filled t P before)
     → Whole t P before tightest most exits after
 whole true t P n place before tightest most exits after e h = absurd (let z : _≡_ {A = ℕ} 0 1 = cc in omega arith)
-whole false t P n place before tightest most exits after e h = record { first = cc; second = cc; third = cc; table = h }
+whole false t P n place before tightest most exits after e h = record { first = cc; second = cc; third = ap counted e; table = h }
+  where
+    counted : Result → ℕ
+    counted (given tight published exits) = exits
+    counted (refused number place) = 0
 
 module _ (s before : List ℕ) (k : Outline) (e : judged s ≡ Accepted k) where
+  -- with a place for each offset the answer is the figures of the task
+  pub figures-given : k .period ≤ length before → answer s before ≡ figuresOf (taskOf s k)
+  figures-given room = rw (e, le-ltb (length before) (k .period) room)
+
   -- of numbers and a table that the definitions give
   totals : (tightest most exits : ℕ) (after : List ℕ) → given tightest most exits ≡ afterJudging s before (Accepted k) → after ≡ tableFor s before (Accepted k)
       → Whole (taskOf s k) (k .period) before tightest most exits after
