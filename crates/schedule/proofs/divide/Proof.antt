@@ -97,8 +97,8 @@ loop-again c =
     let image = s .args .image .now in
     let this = eqb (byteAt image (4 + 2 * l .i)) (byteAt image 3) in
     let all = cycles (l .at) (byteAt image (4 + 2 * l .i + 1)) in
-    let mine : value (c .before .before .before .only-if .result) ≡ cond this all 0 = c .before .before .before .only-if .ensures ∙ rw (now, owner, core) in
-    let others : value (c .before .only-if2 .result) ≡ cond (not this) all 0 = c .before .only-if2 .ensures ∙ rw (now, owner, core) in
+    let mine : value (c .before .before .before .only-if .result) ≡ cond this all 0 = c .before .before .before .only-if .ensures ∙ simp (now, owner, core) in
+    let others : value (c .before .only-if2 .result) ≡ cond (not this) all 0 = c .before .only-if2 .ensures ∙ simp (now, owner, core) in
     sofar-next image (s .pre) _ _ (l .at) (l .i) (l .inv) (omega (arith, word)) _ _ _
     (c .before .before .join .ensures ∙ ap (bitOr (value (l .own))) mine)
     (c .join2 .ensures ∙ ap (bitOr (value (l .rest))) others)
