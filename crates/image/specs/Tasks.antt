@@ -20,6 +20,6 @@ nodePlaces s n = row 256 (λ k. cond (ltb k n) (fieldAt s (k + 2)) 0)
 abbrev pub startsOf : List ℕ → List ℕ
 startsOf s = bytes s (fieldAt s 1 + 3) (wordAt s (fieldAt s 1 + 1))
 
--- what an accepted image says: "The last node is the entry."
+-- what an accepted image says: "The last node is the entry", or the one that a field with tag 8 names (W1)
 abbrev pub taskOf : List ℕ → Outline → Task
 taskOf s t = record { bus = said s; starts = startsOf s; lines = t .lines; nodeAt = nodeAt s; entry = t .entry }

@@ -11,7 +11,7 @@
 // src/: fields (one field, and the scan), and the verdict here.
 ghost use mathlib.Core.Path.{_≡_};
 ghost use Rattle.image.specs.Judged.{wholeOf};
-ghost use Rattle.image.specs.Conditions.{Complete};
+ghost use Rattle.image.specs.Conditions.{Ending};
 ghost use Rattle.image.specs.Promise.{Judging};
 ghost use Rattle.nodes.specs.Fine.{Placed};
 use crate::fields::End;
@@ -27,7 +27,7 @@ use schedule::period_at;
 mod fields;
 
 // The outline of an accepted image: the period of the bus, the number of start offsets in field 2, the number of lines and of sets of
-// lines, the number of nodes, and the last of them.
+// lines, the number of nodes, and the entry.
 pub struct Outline {
     pub period: usize,
     pub starts: usize,
@@ -54,15 +54,12 @@ pub struct Judged {
     pub places: [usize; 256],
 }
 
-// The verdict on an image whose `count` fields are good and fill it: 7, 8, 9, 18, or accepted.
-fn whole(image: &[u8], places: &[usize; 256], count: usize) -> Verdict
-    requires { ⌜ (Complete (now image) count) × (Placed (now image) count (now places)) ⌝ }
-    ensures { λ r. ⌜ r ≡ wholeOf (now (image .entry)) count ⌝ }
+// The verdict on an image whose fields are good and fill it, of so many nodes and with this entry: 8, 9, 18, or accepted.
+fn whole(image: &[u8], places: &[usize; 256], nodes: usize, entry: usize) -> Verdict
+    requires { ⌜ (Ending (now image) nodes entry) × (Placed (now image) nodes (now places)) ⌝ }
+    ensures { λ r. ⌜ r ≡ wholeOf (now (image .entry)) nodes entry ⌝ }
 {
-    if count < 3 {
-        return Verdict::Refused(Refusal::Unfinished, image.len());
-    }
-    let w = weights(image, places, count - 2);
+    let w = weights(image, places, entry);
     if 24 < w.depth {
         return Verdict::Refused(Refusal::Deep, image.len());
     }
@@ -70,7 +67,7 @@ fn whole(image: &[u8], places: &[usize; 256], count: usize) -> Verdict
         return Verdict::Refused(Refusal::Long, image.len());
     }
     let period = period_at(image);
-    let lines = lines(image, places, count - 2);
+    let lines = lines(image, places, nodes);
     let sets = power(lines);
     if 1024 < period * sets {
         return Verdict::Refused(Refusal::Lines, image.len());
@@ -80,8 +77,8 @@ fn whole(image: &[u8], places: &[usize; 256], count: usize) -> Verdict
         starts: word(image, 4 + word(image, 1)),
         lines,
         sets,
-        nodes: count - 2,
-        entry: count - 3,
+        nodes,
+        entry,
     })
 }
 
@@ -97,8 +94,8 @@ pub fn judge(image: &[u8]) -> Judged
             verdict: Verdict::Refused(r, at),
             places,
         },
-        End::Whole(count) => Judged {
-            verdict: whole(image, &places, count),
+        End::Whole(nodes, entry) => Judged {
+            verdict: whole(image, &places, nodes, entry),
             places,
         },
     }

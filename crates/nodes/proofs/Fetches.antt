@@ -8,11 +8,11 @@ use Rattle.runs.proofs.Cases.{split}
 use Rattle.runs.specs.Lines.{power}
 use Rattle.runs.specs.Nodes.{nodeLines, linesTo}
 use Rattle.nodes.specs.Nodes.{meant, nodeAt, linesOf}
-use Rattle.rows.specs.Fields.{Passed}
+use Rattle.rows.specs.Fields.{Unclosed}
 use Rattle.nodes.specs.Fine.{Fine}
 use Rattle.nodes.specs.declared.Node.{Node}
 use Rattle.nodes.specs.declared.Node.the-variants.{Plain, Bus as Block, Once, Sequence, Branch, Loop}
-use Rattle.rows.proofs.Standing.{fewer}
+use Rattle.rows.proofs.Standing.{unclosed-fewer}
 use Rattle.nodes.proofs.Kept.{node-fine}
 
 -- a good field's line
@@ -25,10 +25,10 @@ line-few s own (Sequence c) f = omega arith
 line-few s own (Branch c) f = omega arith
 line-few s own (Loop l) f = omega arith
 
-pub lines-few : (s : List ℕ) (n : ℕ) → Passed s (n + 2) → linesOf s n ≤ 4
+pub lines-few : (s : List ℕ) (n : ℕ) → Unclosed s (n + 2) → linesOf s n ≤ 4
 unfolding linesTo nodeAt
 lines-few s zero p = omega arith
-lines-few s (suc n) p = omega (arith, lines-few s n (fewer s (n + 2) (suc n + 2) (omega arith) p), line-few s n _ (node-fine s n (p (n + 2) (omega arith))))
+lines-few s (suc n) p = omega (arith, lines-few s n (unclosed-fewer s (n + 2) (suc n + 2) (omega arith) p), line-few s n _ (node-fine s n (p (n + 2) (omega arith))))
 
 pub line-below : (s : List ℕ) (k n : ℕ) → k < n → nodeLines (nodeAt s k) ≤ linesOf s n
 unfolding linesTo

@@ -6,7 +6,7 @@ use Prim.Native.Nat.{ℕ, _+_, _-_, _/_, _≤_}
 use native.Mathlib.Omega.{arith}
 use lib.ListN.{length}
 use Rattle.rows.specs.Rules.{LengthRule, ValueRule, NamesBelow, ChildRule}
-use Rattle.rows.specs.Fields.{fieldAt, tagAt, lengthAt, bodyAt, GoodField}
+use Rattle.rows.specs.Fields.{fieldAt, tagAt, lengthAt, bodyAt, closedAt, GoodField}
 use Rattle.nodes.specs.Nodes.{nodeFrom, nodeOf}
 use Rattle.nodes.specs.Fine.{Fine}
 use Rattle.rows.proofs.Kept.{good-tag, good-length, good-body, good-value, node-tag}
@@ -22,6 +22,7 @@ module _ (s : List ℕ) (b own : ℕ) where
   parent-fine t n inside lo hi c (LengthRule.plain e l) = absurd (omega arith)
   parent-fine t n inside lo hi c (LengthRule.block e l) = absurd (omega arith)
   parent-fine t n inside lo hi c (LengthRule.loop e l) = absurd (omega arith)
+  parent-fine t n inside lo hi c (LengthRule.entry e l) = absurd (omega arith)
   parent-fine t n inside lo hi c (LengthRule.schedule e l h (m, w)) = absurd (omega arith)
   parent-fine t n inside lo hi c (LengthRule.once e l) = absurd (omega arith)
 
@@ -33,11 +34,12 @@ module _ (s : List ℕ) (b own : ℕ) where
   fine-by t n r inside l c (ValueRule.loop e h) = rw e (h, c .loop e)
   fine-by t n r inside l c (ValueRule.once e h) = rw e h
   fine-by t n r inside l c (ValueRule.bus e h) = absurd (⊎-elim (λ q. omega arith) (λ (lo, hi). omega arith) r)
+  fine-by t n r inside l c (ValueRule.entry e) = absurd (⊎-elim (λ q. omega arith) (λ (lo, hi). omega arith) r)
   fine-by t n r inside l c (ValueRule.starts e h) = absurd (⊎-elim (λ q. omega arith) (λ (lo, hi). omega arith) r)
   fine-by t n r inside l c (ValueRule.schedule e h) = absurd (⊎-elim (λ q. omega arith) (λ (lo, hi). omega arith) r)
 
-pub node-fine : (s : List ℕ) (own : ℕ) → GoodField s (own + 2) → Fine s own (nodeOf s (fieldAt s (own + 2)))
-node-fine s own g =
+pub node-fine : (s : List ℕ) (own : ℕ) → GoodField s (own + 2) × (tagAt s (own + 2) ≡ 8 → ⊥) → Fine s own (nodeOf s (fieldAt s (own + 2)))
+node-fine s own (g, ne) =
     let k = own + 2 in
     let e : k - 2 ≡ own = omega arith in
-    fine-by s (bodyAt s k) own (tagAt s k) (lengthAt s k) (node-tag own (tagAt s k) (good-tag s k g)) (good-body s k g) (good-length s k g) (rw e at (g .1)) (good-value s k g)
+    fine-by s (bodyAt s k) own (tagAt s k) (lengthAt s k) (node-tag own (closedAt s k) (tagAt s k) ne (good-tag s k g)) (good-body s k g) (good-length s k g) (rw e at (g .1)) (good-value s k g)

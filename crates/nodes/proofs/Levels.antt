@@ -10,14 +10,15 @@ use borrow.Author.Count.{below-more}
 use Rattle.runs.specs.Nodes.{trees, treeBy, Children as Named, depth, deepest, visits, visitsAll}
 use Rattle.runs.proofs.Trees.{tree-is}
 use Rattle.bytes.specs.Bytes.{wordAt}
-use Rattle.rows.specs.Fields.{fieldAt, Passed}
+use Rattle.rows.specs.Fields.{fieldAt, Unclosed}
 use Rattle.nodes.specs.Nodes.{nodeOf, meant, nodeAt, treeAt, childTrees}
 use Rattle.nodes.specs.Fine.{Fine, Standing}
 use Rattle.nodes.specs.Weights.{Holds}
 use Rattle.nodes.specs.declared.Node.{Node}
 use Rattle.nodes.specs.declared.Node.the-variants.{Plain, Bus as Block, Once, Sequence, Branch, Loop}
 use Rattle.nodes.proofs.Lists.{words-step, words-none, all-words}
-use Rattle.rows.proofs.Kept.{good-head, good-room}
+use Rattle.rows.proofs.Kept.{good-head}
+use Rattle.rows.proofs.Standing.{unclosed-few}
 use Rattle.nodes.proofs.Kept.{node-fine}
 
 names : (s : List ℕ) (own : ℕ) (x : Node) → Fine s own x → Named (λ i. i < own) (meant s x)
@@ -30,16 +31,16 @@ names s own (Branch c) f = all-words (λ i. i < own) s (c .place) (c .count) (f 
 names s own (Loop l) f = f .1
 
 -- "a child's number is smaller than that of the node naming it", for the nodes 0 to n
-pub falls : (s : List ℕ) (n : ℕ) → Passed s (n + 3) → (k : ℕ) → k < suc n → Named (λ i. i < k) (nodeAt s k)
+pub falls : (s : List ℕ) (n : ℕ) → Unclosed s (n + 3) → (k : ℕ) → k < suc n → Named (λ i. i < k) (nodeAt s k)
 unfolding nodeAt
 falls s n p k l = names s k (nodeOf s (fieldAt s (k + 2))) (node-fine s k (p (k + 2) (omega arith)))
 
 module _ (s : List ℕ) (n at : ℕ) (h : Standing s n at) where
   pub inside-here : at ≤ length s
-  inside-here = omega (arith, h .place, good-head s (n + 2) (h .passed (n + 2) (omega arith)))
+  inside-here = omega (arith, h .place, good-head s (n + 2) (h .passed (n + 2) (omega arith) .0))
 
   pub few-here : n < 256
-  few-here = omega (arith, good-room s (n + 2) (h .passed (n + 2) (omega arith)))
+  few-here = omega (arith, unclosed-few s (n + 3) (h .passed))
 
   -- the rules of the row of what stands in its field
   pub fine-here : (x : Node) → nodeOf s at ≡ x → Fine s n x

@@ -4,7 +4,7 @@ use mathlib.Core.List.{List}
 use Prim.Native.Nat.{ℕ, _+_, _*_, _≤_, _<_}
 use lib.ListN.{length, getD}
 use Rattle.schedule.specs.Said.{said}
-use Rattle.rows.specs.Fields.{fieldAt, Passed}
+use Rattle.rows.specs.Fields.{fieldAt, Unclosed}
 use Rattle.rows.specs.Rules.{Durations, Accesses, LoopCounts, Fetches, NamesBelow}
 use Rattle.nodes.specs.declared.Node.{Node}
 use Rattle.nodes.specs.declared.Node.the-variants.{Plain, Bus as Block, Once, Sequence, Branch, Loop}
@@ -18,13 +18,11 @@ Fine s own (Sequence c) = (1 ≤ c .count) × (c .count ≤ 16) × (c .place + 2
 Fine s own (Branch c) = (2 ≤ c .count) × (c .count ≤ 8) × (c .place + 2 * c .count ≤ length s) × NamesBelow s (c .place) (c .count) own
 Fine s own (Loop l) = LoopCounts (l .least) (l .greatest) × (l .body < own)
 
--- node n's field stands at a place, and it and all before it are good
+-- node n's field stands at a place, it and all before it are good, and none of them has closed the image
 pub record Standing (s : List ℕ) (n at : ℕ) : Type 0 where
-  pub passed : Passed s (n + 3)
+  pub passed : Unclosed s (n + 3)
   pub place : at ≡ fieldAt s (n + 2)
 
--- the place of each node of n fields, in an array that is 0 behind them
-pub record Placed (s : List ℕ) (n : ℕ) (places : List ℕ) : Type 0 where
-  pub long : length places ≡ 256
-  pub each : (k : ℕ) → k + 2 < n → getD places k 0 ≡ fieldAt s (k + 2)
-  pub behind : (k : ℕ) → n ≤ k + 2 → getD places k 0 ≡ 0
+-- the first n nodes' fields stand at these places
+abbrev pub Placed : List ℕ → ℕ → List ℕ → Type 0
+Placed s n places = (k : ℕ) → k < n → getD places k 0 ≡ fieldAt s (k + 2)

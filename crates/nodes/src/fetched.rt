@@ -4,7 +4,7 @@ ghost use Prim.Native.Nat.{ℕ, _+_, _≤_};
 ghost use Rattle.runs.specs.Lines.{power as powerOf};
 ghost use Rattle.runs.specs.Nodes.{nodeLines};
 ghost use Rattle.nodes.specs.Nodes.{meant, nodeOf, linesOf};
-ghost use Rattle.rows.specs.Fields.{Passed};
+ghost use Rattle.rows.specs.Fields.{Unclosed};
 ghost use Rattle.nodes.specs.Fine.{Standing, Placed};
 use crate::Node;
 use crate::node_at;
@@ -28,7 +28,7 @@ fn line_at(image: &[u8], at: usize) -> usize
 
 // One more than the highest line number of the nodes, reached or not, or 0.
 pub fn lines(image: &[u8], places: &[usize; 256], nodes: usize) -> usize
-    requires { ⌜ (Passed (now image) (nodes + 2)) × (Placed (now image) (nodes + 2) (now places)) ⌝ }
+    requires { ⌜ (Unclosed (now image) (nodes + 2)) × (Placed (now image) nodes (now places)) ⌝ }
     ensures { λ r. ⌜ r ≡ linesOf (now (image .entry)) nodes ⌝ }
 {
     let mut most = 0;

@@ -2,7 +2,7 @@
 // held as the limit and one more, which decides the same and never overflows.
 ghost use mathlib.Core.Path.{_≡_};
 ghost use Prim.Native.Nat.{_+_, _-_, _*_, _≤_, _<_, min, max};
-ghost use Rattle.rows.specs.Fields.{Passed};
+ghost use Rattle.rows.specs.Fields.{Unclosed};
 ghost use Rattle.rows.specs.Rules.{NamesBelow};
 ghost use Rattle.nodes.specs.Fine.{Standing, Placed};
 ghost use Rattle.nodes.specs.Weights.{Weighed, Together, Weighs};
@@ -104,21 +104,20 @@ fn weight_of(
 }
 
 // The entry's depth, or 25, and its visits, or 100,001.
-pub fn weights(image: &[u8], places: &[usize; 256], nodes: usize) -> Weight
-    requires { ⌜ (1 ≤ nodes) × (Passed (now image) (nodes + 2)) × (Placed (now image) (nodes + 2) (now places)) ⌝ }
-    ensures { λ r. ⌜ Weighs (now (image .entry)) (nodes - 1) r ⌝ }
+pub fn weights(image: &[u8], places: &[usize; 256], entry: usize) -> Weight
+    requires { ⌜ (Unclosed (now image) (entry + 3)) × (Placed (now image) (entry + 1) (now places)) ⌝ }
+    ensures { λ r. ⌜ Weighs (now (image .entry)) entry r ⌝ }
 {
     let mut depths = [0usize; 256];
     let mut visits = [0usize; 256];
     let mut n = 0;
-    while n < nodes {
+    while n <= entry {
         let at = places[n];
         let w = weight_of(image, at, n, &depths, &visits);
         depths[n] = w.depth;
         visits[n] = w.visits;
         n += 1;
     }
-    let entry = nodes - 1;
     Weight {
         depth: depths[entry],
         visits: visits[entry],

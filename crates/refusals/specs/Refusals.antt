@@ -2,7 +2,7 @@
 use Prim.Native.Nat.{ℕ}
 use Prim.Native.String.{String}
 use Rattle.refusals.specs.declared.Refusal.{Refusal}
-use Rattle.refusals.specs.declared.Refusal.the-variants.{Cut, Tag, Full, Length, Value, Forward, Unfinished, Deep, Long, Table, Register, Busy, Forbidden, Lines, Block}
+use Rattle.refusals.specs.declared.Refusal.the-variants.{Cut, Tag, Full, Length, Value, Forward, Unfinished, Deep, Long, Table, Entry, Register, Busy, Forbidden, Lines, Block}
 
 -- "Number"; those above 10 are new numbers of document 02
 abbrev pub numberOf : Refusal → ℕ
@@ -16,6 +16,7 @@ numberOf Unfinished = 7
 numberOf Deep = 8
 numberOf Long = 9
 numberOf Table = 10
+numberOf Entry = 11
 numberOf Register = 15
 numberOf Busy = 16
 numberOf Forbidden = 17
@@ -34,6 +35,7 @@ wordOf Unfinished = "unfinished"
 wordOf Deep = "deep"
 wordOf Long = "long"
 wordOf Table = "table"
+wordOf Entry = "entry"
 wordOf Register = "register"
 wordOf Busy = "busy"
 wordOf Forbidden = "forbidden"

@@ -4,8 +4,8 @@
 ghost use mathlib.Core.Path.{_≡_};
 ghost use Rattle.refusals.specs.Refusals.{numberOf};
 
-// Why there is no answer. Judging answers the first nine and `Lines` (18); `Table` is for
-// what lends a table, `Register`, `Busy` and `Forbidden` are for calls to the arbiter (15 to 17), `Block` is for one that edits a block (19).
+// Why there is no answer. Judging answers the first nine, `Entry` (11) and `Lines` (18); `Table` is for what lends a table,
+// `Register`, `Busy` and `Forbidden` are for calls to the arbiter (15 to 17), `Block` is for one that edits a block (19).
 pub enum Refusal {
     Cut,
     Tag,
@@ -17,6 +17,7 @@ pub enum Refusal {
     Deep,
     Long,
     Table,
+    Entry,
     Register,
     Busy,
     Forbidden,
@@ -39,6 +40,7 @@ pub fn number(r: Refusal) -> usize
         Refusal::Deep => 8,
         Refusal::Long => 9,
         Refusal::Table => 10,
+        Refusal::Entry => 11,
         Refusal::Register => 15,
         Refusal::Busy => 16,
         Refusal::Forbidden => 17,

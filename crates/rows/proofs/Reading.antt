@@ -12,7 +12,7 @@ use Rattle.bytes.proofs.Agreeing.{Agree, agree-part, agree-first, agree-here, w
 use Rattle.schedule.specs.Said.{within, said}
 use Rattle.schedule.proofs.Numbers.{both}
 use Rattle.schedule.proofs.Writings.{agree-turns}
-use Rattle.rows.specs.Tests.{nodeLengthOk, lengthOk, startsOk, nodeValueOk, valueOk, below, childrenOk}
+use Rattle.rows.specs.Tests.{nodeLengthOk, lengthOk, startsOk, nodeValueOk, valueOk, below, childrenOk, entryOk}
 
 -- the first m bytes are all that the row's rules, and the node, read of a body of n bytes
 pub record Covers (tag n m : ℕ) : Type 0 where
@@ -21,6 +21,7 @@ pub record Covers (tag n m : ℕ) : Type 0 where
   pub plain : eqb tag 3 ≡ true → 4 ≤ m
   pub block : eqb tag 4 ≡ true → 3 ≤ m
   pub loop : eqb tag 7 ≡ true → 6 ≤ m
+  pub entry : eqb tag 8 ≡ true → 2 ≤ m
   pub turns : eqb tag 9 ≡ true → 1 + 2 * (n / 2) ≤ m
   pub once : eqb tag 10 ≡ true → 5 ≤ m
 
@@ -32,6 +33,7 @@ covers-more tag n = record {
   plain = λ is. omega arith;
   block = λ is. omega arith;
   loop = λ is. omega arith;
+  entry = λ is. omega arith;
   turns = λ is. omega arith;
   once = λ is. omega arith;
 }
@@ -49,6 +51,7 @@ module _ (tag n : ℕ) (len : lengthOk tag n ≡ true) where
     plain = λ is. omega (arith, eqb-true n 4 (at-tag 3 is));
     block = λ is. omega (arith, eqb-true n 3 (at-tag 4 is));
     loop = λ is. omega (arith, eqb-true n 6 (at-tag 7 is));
+    entry = λ is. omega (arith, eqb-true n 2 (at-tag 8 is));
     turns = λ is. omega (arith, eqb-true (n % 2) 1 (both (within 3 65 n) (eqb (n % 2) 1) (at-tag 9 is) .1));
     once = λ is. omega (arith, eqb-true n 5 (at-tag 10 is));
   }
@@ -93,11 +96,12 @@ module _ (s e : List ℕ) where
         (λ n5. by-both _≡_ (eqb tag 7) _ _ _ _
         (λ is. let l = c .loop is in rw (word-here s e p q m h (omega arith), agree-word s e p q m 2 h (omega arith)))
         (λ n7. refl)))))
-        (λ w. by-both _≡_ (eqb tag 9) _ _ _ _
+        (λ w. by-both _≡_ (eqb tag 8) _ _ _ _ (λ is. refl)
+        (λ n8. by-both _≡_ (eqb tag 9) _ _ _ _
         (λ is. let l = c .turns is in rw (agree-here s e p q m h (omega arith), agree-turns s e (p + 1) (q + 1) (n / 2) (agree-part s e p q m 1 (2 * (n / 2)) h (omega arith))))
         (λ n9. by-both _≡_ (eqb tag 10) _ _ _ _
         (λ is. let l = c .once is in rw (most, agree-here s e p q m h (omega arith), h 1 (omega arith), h 2 (omega arith), agree-word s e p q m 3 h (omega arith)))
-        (λ n10. refl)))))
+        (λ n10. refl))))))
 
     pub agree-children : (index : ℕ) → childrenOk e tag q n index ≡ childrenOk s tag p n index
     unfolding childrenOk
@@ -107,3 +111,7 @@ module _ (s e : List ℕ) where
         (λ n5. by-both _≡_ (eqb tag 7) _ _ _ _
         (λ is. let l = c .loop is in agree-below (p + 4) (q + 4) 1 index (agree-part s e p q m 4 2 h (omega arith)))
         (λ n7. refl))
+
+    pub agree-entry : (index : ℕ) → entryOk e tag q index ≡ entryOk s tag p index
+    unfolding entryOk
+    agree-entry index = by-both _≡_ (eqb tag 8) _ _ _ _ (λ is. let l = c .entry is in rw (word-here s e p q m h (omega arith))) (λ n8. refl)

@@ -6,17 +6,17 @@ use mathlib.Core.List.{List}
 use Prim.Native.Nat.{ℕ, _+_, _-_, _*_, _/_, _%_, _≤_, _<_}
 use native.Mathlib.Omega.{arith}
 use lib.ListN.{length}
-use lib.Dec.{eqb, leb}
-use borrow.Author.Tests.{eqb-true, eqb-false, eq-eqb, ne-eqb, leb-true, le-leb}
-use Rattle.bytes.specs.Bytes.{byteAt}
+use lib.Dec.{eqb, leb, ltb}
+use borrow.Author.Tests.{eqb-true, eqb-false, eq-eqb, ne-eqb, leb-true, le-leb, ltb-true, lt-ltb}
+use Rattle.bytes.specs.Bytes.{byteAt, wordAt}
 use Rattle.schedule.specs.Said.{within, said}
 use Rattle.schedule.proofs.Sayings.{ranges-kept, kept-ranges, schedule-kept, kept-schedule}
 use Rattle.schedule.proofs.Pairs.{turns-length}
 use Rattle.runs.proofs.Cases.{by-cond}
 use Rattle.schedule.proofs.Numbers.{eq-or-ne, both, is-within}
-use Rattle.rows.specs.Rules.{TagRule, LengthRule, Durations, Accesses, LoopCounts, Fetches, ValueRule, ChildRule}
-use Rattle.rows.specs.Fields.{fieldAt, tagAt, lengthAt, bodyAt, UpToLength, GoodField}
-use Rattle.rows.specs.Tests.{parityWithin, tagOk, nodeLengthOk, lengthOk, plainOk, accessOk, blockOk, loopOk, onceOk, nodeValueOk, valueOk, childrenOk}
+use Rattle.rows.specs.Rules.{TagRule, RoomRule, LengthRule, Durations, Accesses, LoopCounts, Fetches, ValueRule, ChildRule, EntryRule}
+use Rattle.rows.specs.Fields.{fieldAt, tagAt, lengthAt, bodyAt, closedAt, UpToLength, GoodField}
+use Rattle.rows.specs.Tests.{parityWithin, tagOk, roomOk, nodeLengthOk, lengthOk, plainOk, accessOk, blockOk, loopOk, onceOk, nodeValueOk, valueOk, childrenOk, entryOk}
 use Rattle.rows.proofs.Lists.{names-below, below-names, starts-kept, kept-starts}
 
 -- a test that is true if and only if a rule holds
@@ -48,9 +48,9 @@ none e = absurd (let z : _≡_ {A = ℕ} 0 1 = cc in omega arith)
 
 -- ---- 2, the tag
 
-tag-holds : (index tag : ℕ) → tagOk index tag ≡ true → TagRule index tag
+tag-holds : (index : ℕ) (closed : Bool) (tag : ℕ) → tagOk index closed tag ≡ true → TagRule index closed tag
 unfolding tagOk
-tag-holds index tag =
+tag-holds index closed tag =
     row (eqb index 0) _ _
     (λ i. row (eqb tag 9) _ _
     (λ t e. TagRule.schedule (eqb-true index 0 i) (eqb-true tag 9 t))
@@ -58,21 +58,48 @@ tag-holds index tag =
     (λ n0. row (eqb index 1) _ _
     (λ i t. TagRule.starts (eqb-true index 1 i) (eqb-true tag 2 t))
     (λ n1. let two : 2 ≤ index = omega (arith, eqb-false index 0 n0, eqb-false index 1 n1) in
-    row (eqb tag 10) _ _
-    (λ t e. TagRule.once two (eqb-true tag 10 t))
-    (λ n10 w. let p = is-within 3 7 tag w in TagRule.node two (p .0) (p .1))))
+    row closed _ _ (λ c. none)
+    (λ o. row (eqb tag 8) _ _
+    (λ t e. TagRule.entry (leb-true 3 index e) o (eqb-true tag 8 t))
+    (λ n8. row (eqb tag 10) _ _
+    (λ t e. TagRule.once two o (eqb-true tag 10 t))
+    (λ n10 w. let p = is-within 3 7 tag w in TagRule.node two o (p .0) (p .1))))))
 
-tag-passes : (index tag : ℕ) → TagRule index tag → tagOk index tag ≡ true
+tag-passes : (index : ℕ) (closed : Bool) (tag : ℕ) → TagRule index closed tag → tagOk index closed tag ≡ true
 unfolding tagOk
-tag-passes index tag (TagRule.bus i t) = rw (i, t)
-tag-passes index tag (TagRule.schedule i t) = rw (i, t)
-tag-passes index tag (TagRule.starts i t) = rw (i, t)
-tag-passes index tag (TagRule.node two lo hi) =
-    simp (ne-eqb index 0 (λ e. omega arith), ne-eqb index 1 (λ e. omega arith), ne-eqb tag 10 (λ e. omega arith), le-leb 3 tag lo, le-leb tag 7 hi)
-tag-passes index tag (TagRule.once two t) = rw t (simp (ne-eqb index 0 (λ e. omega arith), ne-eqb index 1 (λ e. omega arith)))
+tag-passes index closed tag (TagRule.bus i t) = rw (i, t)
+tag-passes index closed tag (TagRule.schedule i t) = rw (i, t)
+tag-passes index closed tag (TagRule.starts i t) = rw (i, t)
+tag-passes index closed tag (TagRule.node two o lo hi) =
+    rw o
+    (simp (
+      ne-eqb index 0 (λ e. omega arith),
+      ne-eqb index 1 (λ e. omega arith),
+      ne-eqb tag 8 (λ e. omega arith),
+      ne-eqb tag 10 (λ e. omega arith),
+      le-leb 3 tag lo,
+      le-leb tag 7 hi,
+    ))
+tag-passes index closed tag (TagRule.once two o t) = rw (o, t) (simp (ne-eqb index 0 (λ e. omega arith), ne-eqb index 1 (λ e. omega arith)))
+tag-passes index closed tag (TagRule.entry three o t) =
+    rw (o, t) (simp (ne-eqb index 0 (λ e. omega arith), ne-eqb index 1 (λ e. omega arith), le-leb 3 index three))
 
-pub tag-rule : (index tag : ℕ) → Decides (tagOk index tag) (TagRule index tag)
-tag-rule index tag = record { holds = tag-holds index tag; passes = tag-passes index tag }
+pub tag-rule : (index : ℕ) (closed : Bool) (tag : ℕ) → Decides (tagOk index closed tag) (TagRule index closed tag)
+tag-rule index closed tag = record { holds = tag-holds index closed tag; passes = tag-passes index closed tag }
+
+-- ---- 3, room for it
+
+room-holds : (index tag : ℕ) → roomOk index tag ≡ true → RoomRule index tag
+unfolding roomOk
+room-holds index tag = row (ltb index 258) _ _ (λ l e. RoomRule.node (ltb-true index 258 l)) (λ m t. RoomRule.entry (eqb-true tag 8 t))
+
+room-passes : (index tag : ℕ) → RoomRule index tag → roomOk index tag ≡ true
+unfolding roomOk
+room-passes index tag (RoomRule.node l) = rw (lt-ltb index 258 l)
+room-passes index tag (RoomRule.entry t) = rows (ltb index 258) _ _ (λ l. refl) (λ m. eq-eqb tag 8 t)
+
+pub room-rule : (index tag : ℕ) → Decides (roomOk index tag) (RoomRule index tag)
+room-rule index tag = record { holds = room-holds index tag; passes = room-passes index tag }
 
 -- ---- 4, the length
 
@@ -103,8 +130,9 @@ length-holds tag n =
     (λ n4. row (eqb tag 5) _ _ (λ t e. let p = parity 0 2 32 n e in LengthRule.sequence (eqb-true tag 5 t) (p .0) (p .1) (n / 2, even-of n (p .2)))
     (λ n5. row (eqb tag 6) _ _ (λ t e. let p = parity 0 4 16 n e in LengthRule.branch (eqb-true tag 6 t) (p .0) (p .1) (n / 2, even-of n (p .2)))
     (λ n6. row (eqb tag 7) _ _ (λ t e. LengthRule.loop (eqb-true tag 7 t) (eqb-true n 6 e)) (λ n7. none))))))
-    (λ w. row (eqb tag 9) _ _ (λ t e. let p = parity 1 3 65 n e in LengthRule.schedule (eqb-true tag 9 t) (p .0) (p .1) (n / 2, odd-of n (p .2)))
-    (λ n9. row (eqb tag 10) _ _ (λ t e. LengthRule.once (eqb-true tag 10 t) (eqb-true n 5 e)) (λ n10. none)))))
+    (λ w. row (eqb tag 8) _ _ (λ t e. LengthRule.entry (eqb-true tag 8 t) (eqb-true n 2 e))
+    (λ n8. row (eqb tag 9) _ _ (λ t e. let p = parity 1 3 65 n e in LengthRule.schedule (eqb-true tag 9 t) (p .0) (p .1) (n / 2, odd-of n (p .2)))
+    (λ n9. row (eqb tag 10) _ _ (λ t e. LengthRule.once (eqb-true tag 10 t) (eqb-true n 5 e)) (λ n10. none))))))
 
 length-passes : (tag n : ℕ) → LengthRule tag n → lengthOk tag n ≡ true
 unfolding lengthOk nodeLengthOk
@@ -115,6 +143,7 @@ length-passes tag n (LengthRule.block t l) = rw (t, l)
 length-passes tag n (LengthRule.sequence t lo hi (m, e)) = rw t (parity-passes 0 2 32 n lo hi (omega arith))
 length-passes tag n (LengthRule.branch t lo hi (m, e)) = rw t (parity-passes 0 4 16 n lo hi (omega arith))
 length-passes tag n (LengthRule.loop t l) = rw (t, l)
+length-passes tag n (LengthRule.entry t l) = rw (t, l)
 length-passes tag n (LengthRule.schedule t lo hi (m, e)) = rw t (parity-passes 1 3 65 n lo hi (omega arith))
 length-passes tag n (LengthRule.once t l) = rw (t, l)
 
@@ -184,9 +213,10 @@ module _ (s : List ℕ) (tag body n : ℕ) where
       ValueRule.block (eqb-true tag 4 t) (⊎-elim (λ is. inl is) (λ n. inr (omega (arith, w .0, w .1, n))) (eq-or-ne (byteAt s body) 1)) (access-kept _ _ _ (p .1)))
       (λ n4. row (within 5 6 tag) _ _ (λ t e. let p = is-within 5 6 tag t in ValueRule.children (p .0) (p .1))
       (λ n5. row (eqb tag 7) _ _ (λ t e. ValueRule.loop (eqb-true tag 7 t) (counts-kept _ _ e)) (λ n7. none)))))
-      (λ w. row (eqb tag 9) _ _
+      (λ w. row (eqb tag 8) _ _ (λ t e. ValueRule.entry (eqb-true tag 8 t))
+      (λ n8. row (eqb tag 9) _ _
       (λ t e. let p = turns-most n (rw (eqb-true tag 9 t) at (length-passes tag n len)) in ValueRule.schedule (eqb-true tag 9 t) (schedule-kept _ (omega (arith, turns-length s (body + 1) (n / 2), p)) e))
-      (λ n9. row (eqb tag 10) _ _ (λ t e. ValueRule.once (eqb-true tag 10 t) (fetches-kept _ _ _ _ _ e)) (λ n10. none)))))
+      (λ n9. row (eqb tag 10) _ _ (λ t e. ValueRule.once (eqb-true tag 10 t) (fetches-kept _ _ _ _ _ e)) (λ n10. none))))))
 
   value-passes : ValueRule s tag body n → valueOk s tag body n ≡ true
   unfolding valueOk nodeValueOk blockOk
@@ -208,6 +238,7 @@ module _ (s : List ℕ) (tag body n : ℕ) where
         le-leb tag 6 hi,
       )
   value-passes (ValueRule.loop t h) = rw t (kept-counts _ _ h)
+  value-passes (ValueRule.entry t) = rw t
   value-passes (ValueRule.schedule t h) = rw t (kept-schedule _ h)
   value-passes (ValueRule.once t h) = rw t (kept-fetches _ _ _ _ _ h)
 
@@ -234,20 +265,38 @@ module _ (s : List ℕ) (tag body n index : ℕ) where
   pub child-rule : Decides (childrenOk s tag body n index) (ChildRule s tag body n (index - 2))
   child-rule = record { holds = child-holds; passes = child-passes }
 
+-- ---- 11, the entry, of the field with `index` fields before it, of which index - 2 are nodes
+
+module _ (s : List ℕ) (tag body index : ℕ) where
+  entry-holds : entryOk s tag body index ≡ true → EntryRule s tag body (index - 2)
+  unfolding entryOk
+  entry-holds e t = let l = ltb-true (wordAt s body + 2) index (rw t at e) in omega arith
+
+  entry-passes : EntryRule s tag body (index - 2) → entryOk s tag body index ≡ true
+  unfolding entryOk
+  entry-passes r = rows (eqb tag 8) _ _ (λ t. let l = r (eqb-true tag 8 t) in lt-ltb (wordAt s body + 2) index (omega arith)) (λ n8. refl)
+
+  pub entry-rule : Decides (entryOk s tag body index) (EntryRule s tag body (index - 2))
+  entry-rule = record { holds = entry-holds; passes = entry-passes }
+
 -- ---- the tests of a good field, one by one
 
 pub record Tested (s : List ℕ) (k : ℕ) : Type 0 where
   pub head : fieldAt s k + 3 ≤ length s
-  pub tag : tagOk k (tagAt s k) ≡ true
-  pub room : k < 258
+  pub tag : tagOk k (closedAt s k) (tagAt s k) ≡ true
+  pub room : roomOk k (tagAt s k) ≡ true
   pub len : lengthOk (tagAt s k) (lengthAt s k) ≡ true
   pub body : bodyAt s k + lengthAt s k ≤ length s
   pub value : valueOk s (tagAt s k) (bodyAt s k) (lengthAt s k) ≡ true
   pub children : childrenOk s (tagAt s k) (bodyAt s k) (lengthAt s k) k ≡ true
+  pub entry : entryOk s (tagAt s k) (bodyAt s k) k ≡ true
 
 module _ (s : List ℕ) (k : ℕ) where
-  pub tag-here : Decides (tagOk k (tagAt s k)) (TagRule k (tagAt s k))
-  tag-here = tag-rule k (tagAt s k)
+  pub tag-here : Decides (tagOk k (closedAt s k) (tagAt s k)) (TagRule k (closedAt s k) (tagAt s k))
+  tag-here = tag-rule k (closedAt s k) (tagAt s k)
+
+  pub room-here : Decides (roomOk k (tagAt s k)) (RoomRule k (tagAt s k))
+  room-here = room-rule k (tagAt s k)
 
   pub length-here : Decides (lengthOk (tagAt s k) (lengthAt s k)) (LengthRule (tagAt s k) (lengthAt s k))
   length-here = length-rule (tagAt s k) (lengthAt s k)
@@ -258,19 +307,23 @@ module _ (s : List ℕ) (k : ℕ) where
   pub child-here : Decides (childrenOk s (tagAt s k) (bodyAt s k) (lengthAt s k) k) (ChildRule s (tagAt s k) (bodyAt s k) (lengthAt s k) (k - 2))
   child-here = child-rule s (tagAt s k) (bodyAt s k) (lengthAt s k) k
 
+  pub entry-here : Decides (entryOk s (tagAt s k) (bodyAt s k) k) (EntryRule s (tagAt s k) (bodyAt s k) (k - 2))
+  entry-here = entry-rule s (tagAt s k) (bodyAt s k) k
+
   pub tested : GoodField s k → Tested s k
-  tested (((((((head, tag), room), len), body), value), children)) =
+  tested ((((((head, tag), room), len), body), value), children, entry) =
       record {
         head = head;
         tag = tag-here .passes tag;
-        room = room;
+        room = room-here .passes room;
         len = length-here .passes len;
         body = body;
         value = value-here (((head, tag), room), len) .passes value;
         children = child-here .passes children;
+        entry = entry-here .passes entry;
       }
 
   pub good : Tested s k → GoodField s k
   good t =
-      let u : UpToLength s k = (((t .head, tag-here .holds (t .tag)), t .room), length-here .holds (t .len)) in
-      (((u, t .body), value-here u .holds (t .value)), child-here .holds (t .children))
+      let u : UpToLength s k = (((t .head, tag-here .holds (t .tag)), room-here .holds (t .room)), length-here .holds (t .len)) in
+      (((u, t .body), value-here u .holds (t .value)), child-here .holds (t .children), entry-here .holds (t .entry))

@@ -1,8 +1,9 @@
--- The rules of the rows: the table in "The task image" of document 01, and the rows that document 02 adds (9 of W5, 10 of W9), in plain terms.
--- Numbers 2, 4, 5 and 6 say which rule a field breaks (specs/Conditions.antt of crate image); that the tests of specs/Tests.antt are true if and only if
+-- The rules of the rows: the table in "The task image" of document 01, and the rows that document 02 adds (8 of W1, 9 of W5, 10 of W9), in plain terms.
+-- Numbers 2 to 6 and 11 say which rule a field breaks (specs/Conditions.antt of crate image); that the tests of specs/Tests.antt are true if and only if
 -- these rules hold is proofs/Rules.antt. Definitions only.
 use mathlib.Core.Path.{_≡_}
 use mathlib.Core.Logic.{_⊎_}
+use mathlib.Core.Bool.{Bool, false}
 use mathlib.Core.List.{List}
 use Prim.Native.Nat.{ℕ, _+_, _-_, _*_, _/_, _≤_, _<_}
 use Rattle.bus.specs.Waits.{Ranges}
@@ -10,13 +11,20 @@ use Rattle.bytes.specs.Bytes.{byteAt, wordAt}
 use Rattle.schedule.specs.Said.{scheduleOf, said, Scheduled}
 
 -- 2: "Field 1 comes first, field 2 second, then 1 to 256 node fields (tags 3 to 7)"; tag 9 may stand "in place of tag 1" (W5), and 10 is a node's (W9).
--- The field has `index` fields before it
-pub data TagRule (index tag : ℕ) : Type 0 where
-  bus : index ≡ 0 → tag ≡ 1 → TagRule index tag
-  schedule : index ≡ 0 → tag ≡ 9 → TagRule index tag
-  starts : index ≡ 1 → tag ≡ 2 → TagRule index tag
-  node : 2 ≤ index → 3 ≤ tag → tag ≤ 7 → TagRule index tag
-  once : 2 ≤ index → tag ≡ 10 → TagRule index tag
+-- W1: tag 8 "may close the image after at least one node field", and "A field after it has the wrong tag." The field has `index` fields before it, and `closed`
+-- is true where the last of them has tag 8
+pub data TagRule (index : ℕ) (closed : Bool) (tag : ℕ) : Type 0 where
+  bus : index ≡ 0 → tag ≡ 1 → TagRule index closed tag
+  schedule : index ≡ 0 → tag ≡ 9 → TagRule index closed tag
+  starts : index ≡ 1 → tag ≡ 2 → TagRule index closed tag
+  node : 2 ≤ index → closed ≡ false → 3 ≤ tag → tag ≤ 7 → TagRule index closed tag
+  once : 2 ≤ index → closed ≡ false → tag ≡ 10 → TagRule index closed tag
+  entry : 3 ≤ index → closed ≡ false → tag ≡ 8 → TagRule index closed tag
+
+-- 3: no "257th node field", which would have 258 fields before it; one with tag 8 is no node's
+pub data RoomRule (index tag : ℕ) : Type 0 where
+  node : index < 258 → RoomRule index tag
+  entry : tag ≡ 8 → RoomRule index tag
 
 abbrev pub IsEven : ℕ → Type 0
 IsEven n = (m : ℕ) × (n ≡ 2 * m)
@@ -33,6 +41,7 @@ pub data LengthRule (tag n : ℕ) : Type 0 where
   sequence : tag ≡ 5 → 2 ≤ n → n ≤ 32 → IsEven n → LengthRule tag n
   branch : tag ≡ 6 → 4 ≤ n → n ≤ 16 → IsEven n → LengthRule tag n
   loop : tag ≡ 7 → n ≡ 6 → LengthRule tag n
+  entry : tag ≡ 8 → n ≡ 2 → LengthRule tag n
   schedule : tag ≡ 9 → 3 ≤ n → n ≤ 65 → IsOdd n → LengthRule tag n
   once : tag ≡ 10 → n ≡ 5 → LengthRule tag n
 
@@ -65,7 +74,8 @@ pub record Fetches (line lowest highest hit longest : ℕ) : Type 0 where
   pub access : Accesses lowest highest longest
   pub hit-most : hit ≤ 65535
 
--- 5: the numbers of the body of n bytes at a place, row by row; of rows 5 and 6 there is none, since "child numbers are left to 6"
+-- 5: the numbers of the body of n bytes at a place, row by row; of rows 5 and 6 there is none, since "child numbers are left to 6", and
+-- the one of row 8 is left to 11
 pub data ValueRule (s : List ℕ) (tag body n : ℕ) : Type 0 where
   -- "cores 2 to 16, slot 1 to 128, core number below cores, one byte each; cores × slot at most 256"
   bus : tag ≡ 1 → Ranges (record { cores = byteAt s body; slot = byteAt s (body + 1); core = byteAt s (body + 2) }) → ValueRule s tag body n
@@ -75,6 +85,7 @@ pub data ValueRule (s : List ℕ) (tag body n : ℕ) : Type 0 where
   block : tag ≡ 4 → (byteAt s body ≡ 1) ⊎ (byteAt s body ≡ 2) → Accesses (byteAt s (body + 1)) (byteAt s (body + 2)) (said s .most) → ValueRule s tag body n
   children : 5 ≤ tag → tag ≤ 6 → ValueRule s tag body n
   loop : tag ≡ 7 → LoopCounts (wordAt s body) (wordAt s (body + 2)) → ValueRule s tag body n
+  entry : tag ≡ 8 → ValueRule s tag body n
   -- W5: pairs "of core (0 to 15) and slot length (1 to 128)", a sum of at most 256, and one of them the analysed core's
   schedule : tag ≡ 9 → Scheduled (scheduleOf s body n) → ValueRule s tag body n
   once : tag ≡ 10 → Fetches (byteAt s body) (byteAt s (body + 1)) (byteAt s (body + 2)) (wordAt s (body + 3)) (said s .most) → ValueRule s tag body n
@@ -87,3 +98,7 @@ NamesBelow s place n own = (i : ℕ) → i < n → wordAt s (place + 2 * i) < ow
 pub record ChildRule (s : List ℕ) (tag body n own : ℕ) : Type 0 where
   pub children : 5 ≤ tag → tag ≤ 6 → NamesBelow s body (n / 2) own
   pub loop : tag ≡ 7 → wordAt s (body + 4) < own
+
+-- 11 (W1): no "number in tag 8" that "is not that of a node", of which so many stand before it
+abbrev pub EntryRule : List ℕ → ℕ → ℕ → ℕ → Type 0
+EntryRule s tag body nodes = tag ≡ 8 → wordAt s body < nodes

@@ -10,10 +10,19 @@ use Rattle.schedule.specs.Said.{within, busOk, scheduleOf, scheduleOk, said}
 abbrev pub parityWithin : ℕ → ℕ → ℕ → ℕ → Bool
 parityWithin odd low high n = within low high n && eqb (n % 2) odd
 
--- "Field 1 comes first, field 2 second, then 1 to 256 node fields (tags 3 to 7)", with W5 tag 9 "in place of tag 1" and with W9 tag 10: the tag of the
--- field with `index` fields before it
-unfoldable pub tagOk : ℕ → ℕ → Bool
-tagOk index tag = cond (eqb index 0) (cond (eqb tag 9) true (eqb tag 1)) (cond (eqb index 1) (eqb tag 2) (cond (eqb tag 10) true (within 3 7 tag)))
+-- "Field 1 comes first, field 2 second, then 1 to 256 node fields (tags 3 to 7)", with W5 tag 9 "in place of tag 1", with W9 tag 10, and with W1
+-- tag 8 once, "after at least one node field": the tag of the field with `index` fields before it, of which the last has tag 8 where `closed` is true
+unfoldable pub tagOk : ℕ → Bool → ℕ → Bool
+tagOk index closed tag =
+    cond (eqb index 0) (cond (eqb tag 9) true (eqb tag 1))
+    (cond (eqb index 1) (eqb tag 2)
+    (cond closed false
+    (cond (eqb tag 8) (leb 3 index)
+    (cond (eqb tag 10) true (within 3 7 tag)))))
+
+-- no "257th node field": the node fields are those from index 2 on, but for one with tag 8
+unfoldable pub roomOk : ℕ → ℕ → Bool
+roomOk index tag = cond (ltb index 258) true (eqb tag 8)
 
 -- "Body length", row by row: of node tags, and of all
 unfoldable pub nodeLengthOk : ℕ → ℕ → Bool
@@ -29,8 +38,9 @@ lengthOk tag n =
     cond (eqb tag 1) (eqb n 3)
     (cond (eqb tag 2) (within 1 256 n)
     (cond (within 3 7 tag) (nodeLengthOk tag n)
+    (cond (eqb tag 8) (eqb n 2)
     (cond (eqb tag 9) (parityWithin 1 3 65 n)
-    (cond (eqb tag 10) (eqb n 5) false))))
+    (cond (eqb tag 10) (eqb n 5) false)))))
 
 -- row 2: "start offsets, one byte each, strictly ascending, each below P": the n bytes from a place on, the first of them at least `least`
 unfoldable pub startsOk : List ℕ → ℕ → ℕ → ℕ → ℕ → Bool
@@ -58,7 +68,8 @@ loopOk least greatest = leb least greatest && leb greatest 10000
 unfoldable pub onceOk : ℕ → ℕ → ℕ → ℕ → ℕ → Bool
 onceOk line lowest highest hit most = leb line 3 && (leb hit 65535 && accessOk lowest highest most)
 
--- the rules for the body of n bytes that stands at a place: of node tags, where rows 5 and 6 have child numbers alone, "left to 6", and of all
+-- the rules for the body of n bytes that stands at a place: of node tags, where rows 5 and 6 have child numbers alone, "left to 6", and of all;
+-- the number of row 8 is left to 11
 unfoldable pub nodeValueOk : List ℕ → ℕ → ℕ → Bool
 nodeValueOk s tag body =
     cond (eqb tag 3) (plainOk (wordAt s body) (wordAt s (body + 2)))
@@ -71,8 +82,9 @@ valueOk s tag body n =
     cond (eqb tag 1) (busOk (byteAt s body) (byteAt s (body + 1)) (byteAt s (body + 2)))
     (cond (eqb tag 2) (startsOk s body n 0 (said s .period))
     (cond (within 3 7 tag) (nodeValueOk s tag body)
+    (cond (eqb tag 8) true
     (cond (eqb tag 9) (scheduleOk (scheduleOf s body n))
-    (cond (eqb tag 10) (onceOk (byteAt s body) (byteAt s (body + 1)) (byteAt s (body + 2)) (wordAt s (body + 3)) (said s .most)) false))))
+    (cond (eqb tag 10) (onceOk (byteAt s body) (byteAt s (body + 1)) (byteAt s (body + 2)) (wordAt s (body + 3)) (said s .most)) false)))))
 
 -- the n child numbers from a place on are each below that of the node naming them; node i is the field with i + 2 fields before it
 unfoldable pub below : List ℕ → ℕ → ℕ → ℕ → Bool
@@ -84,3 +96,7 @@ unfoldable pub childrenOk : List ℕ → ℕ → ℕ → ℕ → ℕ → Bool
 childrenOk s tag body n index =
     cond (within 5 6 tag) (below s body (n / 2) index)
     (cond (eqb tag 7) (below s (body + 4) 1 index) true)
+
+-- row 8 (W1): the number is that of a node, which has fewer than `index` fields before it
+unfoldable pub entryOk : List ℕ → ℕ → ℕ → ℕ → Bool
+entryOk s tag body index = cond (eqb tag 8) (ltb (wordAt s body + 2) index) true

@@ -1,13 +1,13 @@
-// rows: the rows of the table in 'The task image' of document 01, and of those that document 02 adds: which tag may stand where (number 2), the body's
-// length (4), the rules of its numbers (5) and its child numbers (6).
+// rows: the rows of the table in 'The task image' of document 01, and of those that document 02 adds: which tag may stand where (number 2), how many
+// node fields (3), the body's length (4), the rules of its numbers (5), its child numbers (6) and the entry that it names (11).
 //
 // Each function promises that its answer equals a test of specs/Tests.antt; that the test is true if and only if the row's rule holds, in plain terms
-// (specs/Rules.antt), is proved in proofs/Rules.antt: `tag-rule`, `length-rule`, `value-rule`, `child-rule`. `plain_ok` asks nothing of its caller.
+// (specs/Rules.antt), is proved in proofs/Rules.antt: `tag-rule`, `room-rule`, `length-rule`, `value-rule`, `child-rule`, `entry-rule`. `plain_ok` asks nothing of its caller.
 // specs/Fields.antt says where a field stands and when it is good; the scan over all fields is in crate image, field 1's own rules in crate schedule.
 ghost use mathlib.Core.Path.{_≡_};
 ghost use Prim.Native.Nat.{_+_, _*_, _<_};
 ghost use Rattle.schedule.specs.Said.{Ranged};
-ghost use Rattle.rows.specs.Tests.{parityWithin, tagOk, nodeLengthOk, lengthOk, startsOk, plainOk, accessOk, blockOk, onceOk, loopOk, nodeValueOk, valueOk, below, childrenOk};
+ghost use Rattle.rows.specs.Tests.{parityWithin, tagOk, roomOk, nodeLengthOk, lengthOk, startsOk, plainOk, accessOk, blockOk, onceOk, loopOk, nodeValueOk, valueOk, below, childrenOk, entryOk};
 use bytes::byte;
 use bytes::word;
 use schedule::between;
@@ -26,9 +26,9 @@ fn parity_between(odd: usize, low: usize, high: usize, n: usize) -> bool
     false
 }
 
-// May a field of this tag stand there, `index` fields standing before it?
-pub fn tag_ok(index: usize, tag: usize) -> bool
-    ensures { λ r. ⌜ r ≡ tagOk index tag ⌝ }
+// May a field of this tag stand there, `index` fields standing before it, the last of which has closed the image or not?
+pub fn tag_ok(index: usize, closed: bool, tag: usize) -> bool
+    ensures { λ r. ⌜ r ≡ tagOk index closed tag ⌝ }
 {
     if index == 0 {
         if tag == 9 {
@@ -39,11 +39,25 @@ pub fn tag_ok(index: usize, tag: usize) -> bool
     if index == 1 {
         return tag == 2;
     }
+    if closed {
+        return false;
+    }
     match tag {
+        8 => 3 <= index,
         10 => true,
         3..=7 => true,
         _ => false,
     }
+}
+
+// Is there room for a field of this tag, `index` fields standing before it? A 257th node has none.
+pub fn room_ok(index: usize, tag: usize) -> bool
+    ensures { λ r. ⌜ r ≡ roomOk index tag ⌝ }
+{
+    if index < 258 {
+        return true;
+    }
+    tag == 8
 }
 
 // Is a node body's length in the tag's row?
@@ -68,6 +82,7 @@ pub fn length_ok(tag: usize, len: usize) -> bool
         1 => len == 3,
         2 => between(1, 256, len),
         3..=7 => node_length_ok(tag, len),
+        8 => len == 2,
         9 => parity_between(1, 3, 65, len),
         10 => len == 5,
         _ => false,
@@ -186,6 +201,7 @@ pub fn value_ok(image: &[u8], tag: usize, body: usize, len: usize) -> bool
         ),
         2 => starts_ok(image, body, len, period_at(image)),
         3..=7 => node_value_ok(image, tag, body),
+        8 => true,
         9 => schedule_ok(image, body, len),
         10 => once_ok(
             byte(image, body),
@@ -223,4 +239,15 @@ pub fn children_ok(image: &[u8], tag: usize, body: usize, len: usize, index: usi
         7 => all_below(image, body + 4, 1, index),
         _ => true,
     }
+}
+
+// Is the entry, where the body names it, a node that stands before this field, which is field `index`?
+pub fn entry_ok(image: &[u8], tag: usize, body: usize, index: usize) -> bool
+    requires { ⌜ body + 6 < 18446744073709551615 ⌝ }
+    ensures { λ r. ⌜ r ≡ entryOk (now (image .entry)) tag body index ⌝ }
+{
+    if tag == 8 {
+        return word(image, body) + 2 < index;
+    }
+    true
 }

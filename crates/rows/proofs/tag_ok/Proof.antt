@@ -19,25 +19,39 @@ returns-3 c = simp (ne-eqb _ _ (c .before .if1 .left), eq-eqb _ _ (c .if3 .taken
 
 returns-4 : tie.Need-returns-4
 unfolding tagOk
-returns-4 c = simp (ne-eqb _ _ (c .before .before .if1 .left), ne-eqb _ _ (c .before .if3 .left), eq-eqb _ _ (c .match .keys1))
+returns-4 c = rw (c .if4 .taken) (simp (ne-eqb _ _ (c .before .before .if1 .left), ne-eqb _ _ (c .before .if3 .left)))
 
 returns-5 : tie.Need-returns-5
 unfolding tagOk
-returns-5 c =
-    let tag = c .before .before .before .before .before .args .tag in
-    simp (ne-eqb _ _ (c .before .before .before .before .if1 .left), ne-eqb _ _ (c .before .before .before .if3 .left), ne-eqb tag 10 (c .before .before .match .rest .1), le-leb 3 tag (omega arith), le-leb tag 7 (omega arith))
+returns-5 c = rw (c .before .if4 .left, c .match .keys1) (simp (ne-eqb _ _ (c .before .before .before .if1 .left), ne-eqb _ _ (c .before .before .if3 .left)))
 
 returns-6 : tie.Need-returns-6
 unfolding tagOk
-returns-6 c =
-    let tag = c .before .before .before .before .args .tag in
-    simp (ne-eqb _ _ (c .before .before .before .if1 .left), ne-eqb _ _ (c .before .before .if3 .left), ne-eqb tag 10 (c .before .match .rest .1), lt-leb 3 tag (omega arith))
+returns-6 c = rw (c .before .if4 .left, c .match .keys2) (simp (ne-eqb _ _ (c .before .before .before .if1 .left), ne-eqb _ _ (c .before .before .if3 .left)))
 
 returns-7 : tie.Need-returns-7
 unfolding tagOk
 returns-7 c =
+    let tag = c .before .before .before .before .before .before .args .tag in
+    let r = c .before .before .match .rest in
+    rw (c .before .before .before .if4 .left)
+    (simp (ne-eqb _ _ (c .before .before .before .before .before .if1 .left), ne-eqb _ _ (c .before .before .before .before .if3 .left), ne-eqb tag 8 (r .0 .1), ne-eqb tag 10 (r .1), le-leb 3 tag (omega arith), le-leb tag 7 (omega arith)))
+
+returns-8 : tie.Need-returns-8
+unfolding tagOk
+returns-8 c =
     let tag = c .before .before .before .before .before .args .tag in
-    simp (ne-eqb _ _ (c .before .before .before .before .if1 .left), ne-eqb _ _ (c .before .before .before .if3 .left), ne-eqb tag 10 (c .before .before .match .rest .1), le-leb 3 tag (omega arith), lt-leb tag 7 (omega arith))
+    let r = c .before .match .rest in
+    rw (c .before .before .if4 .left)
+    (simp (ne-eqb _ _ (c .before .before .before .before .if1 .left), ne-eqb _ _ (c .before .before .before .if3 .left), ne-eqb tag 8 (r .0 .1), ne-eqb tag 10 (r .1), lt-leb 3 tag (omega arith)))
+
+returns-9 : tie.Need-returns-9
+unfolding tagOk
+returns-9 c =
+    let tag = c .before .before .before .before .before .before .args .tag in
+    let r = c .before .before .match .rest in
+    rw (c .before .before .before .if4 .left)
+    (simp (ne-eqb _ _ (c .before .before .before .before .before .if1 .left), ne-eqb _ _ (c .before .before .before .before .if3 .left), ne-eqb tag 8 (r .0 .1), ne-eqb tag 10 (r .1), le-leb 3 tag (omega arith), lt-leb tag 7 (omega arith)))
 
 pub tag-ok-spec : {M : Type 1} → statement M
-tag-ok-spec = tie.close (tie.spec returns returns-2 returns-3 returns-4 returns-5 returns-6 returns-7)
+tag-ok-spec = tie.close (tie.spec returns returns-2 returns-3 returns-4 returns-5 returns-6 returns-7 returns-8 returns-9)

@@ -56,7 +56,7 @@ word-requires : tie.Need-word-requires
 word-requires c κs = search needs
 
 most-at-requires : tie.Need-most-at-requires
-most-at-requires c κs = c .before .before .before .before .before .before .pre .2 (λ e. omega (arith, c .before .before .before .before .match .keys4, e)) (λ e. omega (arith, c .before .before .before .before .match .keys4, e))
+most-at-requires c κs = c .before .before .before .before .before .before .pre .2 (λ e. omega (arith, c .before .before .before .before .match .keys5, e)) (λ e. omega (arith, c .before .before .before .before .match .keys5, e))
 
 once-ok-requires : tie.Need-once-ok-requires
 once-ok-requires c κs = search needs
@@ -74,36 +74,55 @@ returns-2 c = rw (c .before .before .match .keys2, sym (c .before .period-at .en
 
 returns-3 : tie.Need-returns-3
 unfolding valueOk
-returns-3 c = rw (c .before .match .keys3) (c .schedule-ok .ensures)
+returns-3 c = rw (c .match .keys3)
 
 returns-4 : tie.Need-returns-4
 unfolding valueOk
-returns-4 c =
-    rw (c .before .before .before .before .before .before .match .keys4, sym (c .before .before .before .before .before .byte4 .ensures .0), sym (c .before .before .before .before .byte5 .ensures .0), sym (c .before .before .before .byte6 .ensures .0), sym (c .before .before .word .ensures .0), sym (c .before .most-at .ensures))
-    (c .once-ok .ensures)
+returns-4 c = rw (c .before .match .keys4) (c .schedule-ok .ensures)
 
 returns-5 : tie.Need-returns-5
 unfolding valueOk
 returns-5 c =
-    let tag = c .before .before .before .before .before .args .tag in
-    let low = le-leb 3 tag (omega arith) in
-    let high = le-leb tag 7 (omega arith) in
-    let r = c .before .before .before .match .rest in
-    simp (ne-eqb tag 1 (r .0 .0 .0 .1), ne-eqb tag 2 (r .0 .0 .1), low, high) (c .node-value-ok .ensures)
+    rw (c .before .before .before .before .before .before .match .keys5, sym (c .before .before .before .before .before .byte4 .ensures .0), sym (c .before .before .before .before .byte5 .ensures .0), sym (c .before .before .before .byte6 .ensures .0), sym (c .before .before .word .ensures .0), sym (c .before .most-at .ensures))
+    (c .once-ok .ensures)
 
 returns-6 : tie.Need-returns-6
 unfolding valueOk
 returns-6 c =
-    let r = c .before .match .rest in
-    let tag = c .before .before .before .args .tag in
-    simp (ne-eqb tag 1 (r .0 .0 .0 .1), ne-eqb tag 2 (r .0 .0 .1), lt-leb 3 tag (omega arith), ne-eqb tag 9 (r .0 .1), ne-eqb tag 10 (r .1))
+    let tag = c .before .before .before .before .before .args .tag in
+    let low = le-leb 3 tag (omega arith) in
+    let high = le-leb tag 7 (omega arith) in
+    let r = c .before .before .before .match .rest in
+    simp (ne-eqb tag 1 (r .0 .0 .0 .0 .1), ne-eqb tag 2 (r .0 .0 .0 .1), low, high) (c .node-value-ok .ensures)
 
 returns-7 : tie.Need-returns-7
 unfolding valueOk
 returns-7 c =
+    let r = c .before .match .rest in
+    let tag = c .before .before .before .args .tag in
+    simp (
+      ne-eqb tag 1 (r .0 .0 .0 .0 .1),
+      ne-eqb tag 2 (r .0 .0 .0 .1),
+      lt-leb 3 tag (omega arith),
+      ne-eqb tag 8 (r .0 .0 .1),
+      ne-eqb tag 9 (r .0 .1),
+      ne-eqb tag 10 (r .1),
+    )
+
+returns-8 : tie.Need-returns-8
+unfolding valueOk
+returns-8 c =
     let r = c .before .before .match .rest in
     let tag = c .before .before .before .before .args .tag in
-    simp (ne-eqb tag 1 (r .0 .0 .0 .1), ne-eqb tag 2 (r .0 .0 .1), le-leb 3 tag (omega arith), lt-leb tag 7 (omega arith), ne-eqb tag 9 (r .0 .1), ne-eqb tag 10 (r .1))
+    simp (
+      ne-eqb tag 1 (r .0 .0 .0 .0 .1),
+      ne-eqb tag 2 (r .0 .0 .0 .1),
+      le-leb 3 tag (omega arith),
+      lt-leb tag 7 (omega arith),
+      ne-eqb tag 8 (r .0 .0 .1),
+      ne-eqb tag 9 (r .0 .1),
+      ne-eqb tag 10 (r .1),
+    )
 
 pub value-ok-spec : {M : Type 1} → statement M
 value-ok-spec =
@@ -134,4 +153,5 @@ value-ok-spec =
     returns-4
     returns-5
     returns-6
-    returns-7)
+    returns-7
+    returns-8)

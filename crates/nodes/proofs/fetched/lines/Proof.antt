@@ -6,7 +6,7 @@ use borrow.Author.Needs.{needs}
 use Prim.Native.Nat.{ℕ, _+_, _-_, _≤_, max}
 use Rattle.runs.specs.Nodes.{nodeLines, linesTo}
 use Rattle.nodes.specs.Nodes.{meant, nodeOf, nodeAt, linesOf}
-use Rattle.rows.proofs.Standing.{few, fewer}
+use Rattle.rows.proofs.Standing.{unclosed-few, unclosed-fewer}
 use Rattle.nodes.proofs.fetched.lines.Statement.{statement}
 use Rattle.nodes.proofs.fetched.lines.Tie as tie
 
@@ -21,22 +21,22 @@ unfolding linesTo
 loop-holds c = (omega arith, refl)
 
 mul-line-at : tie.Need-mul-line-at Inv-loop μ-loop
-mul-line-at c = omega (arith, few _ _ (c .before .before .before .pre .0))
+mul-line-at c = omega (arith, unclosed-few _ _ (c .before .before .before .pre .0))
 
 element-copy-out-line-at : tie.Need-element-copy-out-line-at Inv-loop μ-loop
-element-copy-out-line-at c = omega (arith, few _ _ (c .before .before .before .pre .0))
+element-copy-out-line-at c = omega (arith, unclosed-few _ _ (c .before .before .before .pre .0))
 
 line-at-requires : tie.Need-line-at-requires Inv-loop μ-loop
 line-at-requires c κs =
     let start = c .before .before .before .before in
     let l = c .before .before .loop in
-    (l .n, record { passed = fewer _ (l .n + 3) (start .args .nodes + 2) (omega arith) (start .pre .0); place = start .pre .1 .each (l .n) (omega arith) })
+    (l .n, record { passed = unclosed-fewer _ (l .n + 3) (start .args .nodes + 2) (omega arith) (start .pre .0); place = start .pre .1 (l .n) (omega arith) })
 
 larger-requires : tie.Need-larger-requires Inv-loop μ-loop
 larger-requires c κs = search needs
 
 add-n : tie.Need-add-n Inv-loop μ-loop
-add-n c = omega (arith, few _ _ (c .before .before .before .before .before .before .pre .0))
+add-n c = omega (arith, unclosed-few _ _ (c .before .before .before .before .before .before .pre .0))
 
 loop-less : tie.Need-loop-less Inv-loop μ-loop
 loop-less c = omega arith
@@ -47,7 +47,7 @@ loop-again c =
     let start = c .before .before .before .before .before .before in
     let s = start .args .image .now in
     let l = c .before .before .before .before .loop in
-    let line = c .before .line-at .ensures ∙ ap (λ (at : ℕ). nodeLines (meant s (nodeOf s at))) (start .pre .1 .each (l .n) (omega arith)) in
+    let line = c .before .line-at .ensures ∙ ap (λ (at : ℕ). nodeLines (meant s (nodeOf s at))) (start .pre .1 (l .n) (omega arith)) in
     (omega arith, rw (add-one (l .n)) (c .larger .ensures ∙ ap₂ max (l .inv .1) line))
 
 returns : tie.Need-returns Inv-loop μ-loop
