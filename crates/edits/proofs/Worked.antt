@@ -7,8 +7,8 @@ use Rattle.runs.specs.Lines.{power}
 use Rattle.runs.specs.Nodes.{trees, treeBy, treeTo, tree, depth, visits, linesTo}
 use Rattle.bytes.specs.Bytes.{wordAt, words}
 use Rattle.schedule.specs.Said.{busOk, said}
-use Rattle.rows.specs.Tests.{tagOk, nodeLengthOk, lengthOk, startsOk, plainOk, accessOk, blockOk, loopOk, nodeValueOk, valueOk, below, childrenOk}
-use Rattle.image.specs.Judged.{fieldOf, scanFrom, scan, wholeOf, judged}
+use Rattle.rows.specs.Tests.{tagOk, roomOk, nodeLengthOk, lengthOk, startsOk, plainOk, accessOk, blockOk, loopOk, nodeValueOk, valueOk, below, childrenOk, entryOk}
+use Rattle.image.specs.Judged.{fieldOf, endOf, scanFrom, scan, wholeOf, judged}
 use Rattle.rows.specs.Fields.{fieldAt}
 use Rattle.nodes.specs.Nodes.{nodeFrom, meant, nodeAt}
 use Rattle.edits.specs.Edits.{Change, done, withDurations, found, change, imageAfter}
@@ -35,7 +35,7 @@ record Worked : Type 0 where
   untouched : imageAfter (arms 3 7) 1 8 7 ≡ arms 3 7
 
 worked : Worked
-unfolding wordAt words tagOk nodeLengthOk lengthOk busOk said startsOk plainOk accessOk blockOk loopOk nodeValueOk valueOk below childrenOk fieldOf fieldAt nodeFrom meant nodeAt trees treeBy treeTo tree depth visits power linesTo scanFrom scan wholeOf judged equalSlots withDurations found
+unfolding wordAt words tagOk roomOk nodeLengthOk lengthOk busOk said startsOk plainOk accessOk blockOk loopOk nodeValueOk valueOk below childrenOk entryOk fieldOf fieldAt nodeFrom meant nodeAt trees treeBy treeTo tree depth visits power linesTo endOf scanFrom scan wholeOf judged equalSlots withDurations found
 worked = record {
   is-done = refl;
   first-arm = refl;
@@ -54,5 +54,5 @@ worked = record {
 
 -- so there are possible edits
 possible : Editable (arms 3 7) 1 8 8
-unfolding wordAt words tagOk nodeLengthOk lengthOk busOk said startsOk plainOk accessOk blockOk loopOk nodeValueOk valueOk below childrenOk fieldOf fieldAt nodeFrom meant nodeAt trees treeBy treeTo tree depth visits power linesTo scanFrom scan wholeOf judged equalSlots found
+unfolding wordAt words tagOk roomOk nodeLengthOk lengthOk busOk said startsOk plainOk accessOk blockOk loopOk nodeValueOk valueOk below childrenOk entryOk fieldOf fieldAt nodeFrom meant nodeAt trees treeBy treeTo tree depth visits power linesTo endOf scanFrom scan wholeOf judged equalSlots found
 possible = when-found (arms 3 7) 1 8 8 17 refl

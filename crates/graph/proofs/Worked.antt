@@ -13,8 +13,8 @@ use Rattle.runs.specs.Carried.{carried}
 use Rattle.runs.specs.Figures.{startTimes, startSet, longer, later, longestOf, atOffsets, cost, entryOf, held, sum}
 use Rattle.bytes.specs.Bytes.{wordAt, words, bytes}
 use Rattle.schedule.specs.Said.{busOk, said}
-use Rattle.rows.specs.Tests.{tagOk, nodeLengthOk, lengthOk, startsOk, plainOk, accessOk, blockOk, loopOk, nodeValueOk, valueOk, below, childrenOk}
-use Rattle.image.specs.Judged.{fieldOf, scanFrom, scan, wholeOf, judged}
+use Rattle.rows.specs.Tests.{tagOk, roomOk, nodeLengthOk, lengthOk, startsOk, plainOk, accessOk, blockOk, loopOk, nodeValueOk, valueOk, below, childrenOk, entryOk}
+use Rattle.image.specs.Judged.{fieldOf, endOf, scanFrom, scan, wholeOf, judged}
 use Rattle.rows.specs.Fields.{fieldAt}
 use Rattle.nodes.specs.Nodes.{nodeFrom, meant, nodeAt}
 use Rattle.image.specs.declared.Outline.{Outline}
@@ -71,7 +71,7 @@ abbrev kept : Outline
 kept = record { period = 10; starts = 10; lines = 0; sets = 1; nodes = 1; entry = 0 }
 
 quoted : Quoted a2 kept 8
-unfolding wordAt words bytes tagOk nodeLengthOk lengthOk busOk said startsOk plainOk accessOk blockOk loopOk nodeValueOk valueOk below childrenOk fieldOf fieldAt nodeFrom meant nodeAt trees treeBy treeTo tree depth visits power linesTo scanFrom scan wholeOf judged equalSlots equation7 withLines carried startTimes startSet longer later longestOf atOffsets cost entryOf held sum
+unfolding wordAt words bytes tagOk roomOk nodeLengthOk lengthOk busOk said startsOk plainOk accessOk blockOk loopOk nodeValueOk valueOk below childrenOk entryOk fieldOf fieldAt nodeFrom meant nodeAt trees treeBy treeTo tree depth visits power linesTo endOf scanFrom scan wholeOf judged equalSlots equation7 withLines carried startTimes startSet longer later longestOf atOffsets cost entryOf held sum
 quoted = record {
   accepted = refl;
   every = lists-every a2 kept refl refl;

@@ -15,7 +15,7 @@ use Rattle.schedule.specs.Said.{said}
 use Rattle.schedule.specs.Written.{slotsField, turnsField}
 use Rattle.schedule.proofs.Sayings.{kept-ranges, said-slots, said-turns}
 use Rattle.schedule.proofs.Writings.{pairs-long, written-length, written-read, evenly, even-count, even-ok, even-same}
-use Rattle.rows.specs.Tests.{tagOk, lengthOk, valueOk, childrenOk}
+use Rattle.rows.specs.Tests.{tagOk, roomOk, lengthOk, valueOk, childrenOk, entryOk}
 use Rattle.rows.specs.Fields.{fieldAt, GoodField}
 use Rattle.rows.proofs.Rules.{good}
 use Rattle.image.proofs.SameRest.{Instead}
@@ -37,30 +37,32 @@ module _ (v : Slots) (h : Ranges v) (rest : List ℕ) where
   body = written-length (evenly v h) (omega (arith, few, h .cores-most)) rest ∙ ap (λ (n : ℕ). 1 + 2 * n) few
 
   one-good : GoodField (one ++ rest) 0
-  unfolding fieldAt wordAt tagOk lengthOk valueOk childrenOk
+  unfolding fieldAt wordAt tagOk roomOk lengthOk valueOk childrenOk entryOk
   one-good = good (one ++ rest) 0 (record {
     head = omega arith;
     tag = refl;
-    room = omega arith;
+    room = refl;
     len = refl;
     body = omega arith;
     value = kept-ranges v h;
     children = refl;
+    entry = refl;
   })
 
   nine-good : GoodField (nine ++ rest) 0
-  unfolding fieldAt tagOk lengthOk valueOk childrenOk
+  unfolding fieldAt tagOk roomOk lengthOk valueOk childrenOk entryOk
   nine-good =
       let odd : (1 + 2 * v .cores) % 2 ≡ 1 = omega arith in
       good (nine ++ rest) 0
       (record {
         head = omega arith;
         tag = refl;
-        room = omega arith;
+        room = refl;
         len = rw body (simp (le-leb 3 (1 + 2 * v .cores) (omega (arith, h .cores-least)), le-leb (1 + 2 * v .cores) 65 (omega (arith, h .cores-most)), eq-eqb ((1 + 2 * v .cores) % 2) 1 odd));
         body = omega (arith, body, long, length-append nine rest);
         value = rw (written-read (evenly v h) (omega (arith, few, h .cores-most)) rest) (even-ok v h);
         children = refl;
+        entry = refl;
       })
 
   one-ends : fieldAt (one ++ rest) 1 ≡ length one

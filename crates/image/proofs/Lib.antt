@@ -1,4 +1,5 @@
 pub mod Passing
+pub mod Endings
 pub mod Says
 pub mod Reasons
 pub mod Scans

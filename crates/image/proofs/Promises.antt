@@ -14,26 +14,26 @@ use Rattle.image.specs.Tasks.{nodePlaces}
 use Rattle.image.specs.Judged.{scan, wholeOf, judged}
 use Rattle.image.specs.Promise.{Judging}
 use Rattle.image.specs.Walks.{Sound}
-use Rattle.nodes.specs.Fine.{Placed}
+use Rattle.image.specs.Inner.{PlacedAll}
 use Rattle.refusals.specs.declared.Refusal.{Refusal}
 use Rattle.image.specs.declared.fields.End.the-variants.{Stopped, Whole}
 use Rattle.image.specs.declared.Outline.{Outline}
 use Rattle.image.specs.declared.Verdict.{Verdict}
 use Rattle.image.specs.declared.Verdict.the-variants.{Accepted, Refused}
-use Rattle.rows.proofs.Standing.{few}
-use Rattle.image.proofs.Passing.{ends}
+use Rattle.rows.proofs.Standing.{unclosed-few}
+use Rattle.image.proofs.Endings.{whole-scan, nodes-stand}
 use Rattle.image.proofs.Reasons.{refused-when, when-refused, when-accepted}
 use Rattle.image.proofs.Sounds.{sound}
 
--- the places of the nodes, where the scan ended with n fields
-placed-is : (s places : List ℕ) (m : ℕ) → Placed s (m + 2) places → places ≡ nodePlaces s m
+-- the places of the nodes, where the scan ended with m of them
+placed-is : (s places : List ℕ) (m : ℕ) → PlacedAll s m places → places ≡ nodePlaces s m
 placed-is s places m p =
     ext-getD 0 places (nodePlaces s m) (p .long ∙ sym (row-length 256 _))
     (λ k l. split m k
-    (λ h. p .behind k (omega arith) ∙ sym (row-at 256 _ k 0 (omega (arith, p .long)) ∙ rw (le-ltb k m h)))
-    (λ h. p .each k (omega arith) ∙ sym (row-at 256 _ k 0 (omega (arith, p .long)) ∙ rw (lt-ltb k m h))))
+    (λ h. p .behind k h ∙ sym (row-at 256 _ k 0 (omega (arith, p .long)) ∙ rw (le-ltb k m h)))
+    (λ h. p .each k h ∙ sym (row-at 256 _ k 0 (omega (arith, p .long)) ∙ rw (lt-ltb k m h))))
 
-promise : (s places : List ℕ) (v : Verdict) → v ≡ judged s → ((t : Outline) → v ≡ Accepted t → Placed s (t .nodes + 2) places) → Judging s v places
+promise : (s places : List ℕ) (v : Verdict) → v ≡ judged s → ((t : Outline) → v ≡ Accepted t → PlacedAll s (t .nodes) places) → Judging s v places
 promise s places v e f =
     record {
       is = e;
@@ -48,18 +48,18 @@ unfolding judged
 promise-refused s places r at e =
     promise s places (Refused r at) (rw e) (λ t q. absurd (let z : _≡_ {A = ℕ} 0 1 = cc in omega arith))
 
-pub promise-whole : (s places : List ℕ) (n : ℕ) (v : Verdict) → scan s ≡ Whole n → Placed s n places → v ≡ wholeOf s n → Judging s v places
+pub promise-whole : (s places : List ℕ) (n entry : ℕ) (v : Verdict) → scan s ≡ Whole n entry → PlacedAll s n places → v ≡ wholeOf s n entry → Judging s v places
 unfolding judged
-promise-whole s places n v e p w =
+promise-whole s places n entry v e p w =
     let j : v ≡ judged s = rw e w in
     promise s places v j
-    (λ t q. subst (λ (m : ℕ). Placed s m places) (same n (t .nodes + 2) (sym e ∙ ends s _ (when-accepted s t (sym j ∙ q) .complete))) p)
+    (λ t q. subst (λ (m : ℕ). PlacedAll s m places) (same n entry (t .nodes) (t .entry) (sym e ∙ whole-scan s _ _ (when-accepted s t (sym j ∙ q) .ending))) p)
   where
-    same : (m n : ℕ) → Whole m ≡ Whole n → m ≡ n
-    same m n e = cc
+    same : (m a n b : ℕ) → Whole m a ≡ Whole n b → m ≡ n
+    same m a n b e = cc
 
 -- so an accepted image is sound
 pub judged-sound : (s places : List ℕ) (v : Verdict) (t : Outline) → Judging s v places → v ≡ Accepted t → Sound s t places
 judged-sound s places v t j e =
     sound s t (j .accepted t e) places
-    (λ k l. subst (λ (xs : List ℕ). getD xs k 0 ≡ fieldAt s (k + 2)) (sym (j .placed t e)) (row-at 256 _ k 0 (omega (arith, few s _ (j .accepted t e .complete .passed))) ∙ rw (lt-ltb k (t .nodes) l)))
+    (λ k l. subst (λ (xs : List ℕ). getD xs k 0 ≡ fieldAt s (k + 2)) (sym (j .placed t e)) (row-at 256 _ k 0 (omega (arith, unclosed-few s _ (nodes-stand s _ _ (j .accepted t e .ending)))) ∙ rw (lt-ltb k (t .nodes) l)))

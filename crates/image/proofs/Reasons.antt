@@ -12,30 +12,37 @@ use borrow.Author.Tests.{lt-ltb, le-ltb, lt-leb}
 use Rattle.runs.specs.Lines.{power}
 use Rattle.runs.specs.Nodes.{depth, visits}
 use Rattle.schedule.specs.Said.{said}
-use Rattle.image.specs.Judged.{fieldOf, scan, wholeOf, judged}
+use Rattle.image.specs.Judged.{fieldOf, endOf, scan, wholeOf, judged}
 use Rattle.refusals.specs.Refusals.{numberOf}
-use Rattle.rows.specs.Fields.{fieldAt, lengthAt, bodyAt, Passed}
+use Rattle.rows.specs.Fields.{fieldAt, tagAt, lengthAt, bodyAt, closedAt, Passed}
 use Rattle.nodes.specs.Nodes.{linesOf, treeAt}
-use Rattle.image.specs.Conditions.{Complete, Condition, head-cut, wrong-tag, one-more, wrong-length, body-cut, wrong-value, not-below, no-node, too-deep, too-long, too-wide, Accepting}
+use Rattle.image.specs.Conditions.{Complete, Ending, Condition, head-cut, wrong-tag, one-more, wrong-length, body-cut, wrong-value, not-below, no-entry, no-node, too-deep, too-long, too-wide, Accepting}
 use Rattle.refusals.specs.declared.Refusal.{Refusal}
-use Rattle.refusals.specs.declared.Refusal.the-variants.{Cut, Tag, Full, Length, Value, Forward, Unfinished, Deep, Long, Lines}
+use Rattle.refusals.specs.declared.Refusal.the-variants.{Cut, Tag, Full, Length, Value, Forward, Unfinished, Deep, Long, Entry, Lines}
 use Rattle.image.specs.declared.fields.Judgement.the-variants.{Bad}
 use Rattle.image.specs.declared.fields.End.the-variants.{Whole}
 use Rattle.image.specs.declared.Outline.{Outline}
 use Rattle.image.specs.declared.Verdict.{Verdict}
 use Rattle.image.specs.declared.Verdict.the-variants.{Accepted, Refused}
-use Rattle.rows.proofs.Rules.{refused, tag-here, length-here, value-here, child-here}
+use Rattle.rows.proofs.Rules.{refused, tag-here, room-here, length-here, value-here, child-here, entry-here}
+use Rattle.rows.specs.Rules.{ValueRule, ChildRule}
+use Rattle.rows.proofs.Kept.{node-room}
 use Rattle.image.proofs.Passing.{stops, ends}
-use Rattle.image.proofs.Says.{VerdictSays, EndSays, says, scan-says}
+use Rattle.image.proofs.Endings.{whole-scan, EndSays}
+use Rattle.image.proofs.Says.{VerdictSays, says, scan-says}
 
 module _ (s : List ℕ) where
-  stopped : (k : ℕ) (r : Refusal) → Passed s k → fieldAt s k < length s → fieldOf s (fieldAt s k) k ≡ Bad r → judged s ≡ Refused r (fieldAt s k)
+  stopped : (k : ℕ) (r : Refusal) → Passed s k → fieldAt s k < length s → fieldOf s (fieldAt s k) k (closedAt s k) ≡ Bad r → judged s ≡ Refused r (fieldAt s k)
   unfolding judged
   stopped k r p l e = rw (stops s k r p l e)
 
-  whole : (n : ℕ) → Complete s n → judged s ≡ wholeOf s n
+  whole : (n entry : ℕ) → Ending s n entry → judged s ≡ wholeOf s n entry
   unfolding judged
-  whole n c = rw (ends s n c)
+  whole n entry h = rw (whole-scan s n entry h)
+
+  unfinished : (n : ℕ) → Complete s n → n < 3 → judged s ≡ Refused Unfinished (length s)
+  unfolding judged endOf
+  unfinished n c h = rw (ends s n c, lt-ltb n 3 h)
 
   -- the head stands; the body does
   head : (k : ℕ) → fieldAt s k + 3 ≤ length s → ltb (length s - fieldAt s k) 3 ≡ false
@@ -48,36 +55,34 @@ module _ (s : List ℕ) where
   unfolding fieldOf wholeOf
   refused-when Cut _ (head-cut k p l h) = stopped k Cut p l (simp (lt-ltb (length s - fieldAt s k) 3 (omega arith)))
   refused-when Tag _ (wrong-tag k p h a) = stopped k Tag p (omega arith) (simp (head k h, refused _ (tag-here s k) a))
-  refused-when Full _ (one-more p (h, a)) = stopped 258 Full p (omega arith) (simp (head 258 h, tag-here s 258 .passes a))
+  refused-when Full _ (one-more p (h, a) ne) =
+      stopped 258 Full p (omega arith)
+      (simp (head 258 h, tag-here s 258 .passes a, refused _ (room-here s 258) (λ r. let l = node-room 258 (tagAt s 258) ne r in omega arith)))
   refused-when Length _ (wrong-length k p ((h, a), r) n) =
-      stopped k Length p (omega arith) (simp (head k h, tag-here s k .passes a, lt-leb 258 k r, refused _ (length-here s k) n))
+      stopped k Length p (omega arith) (simp (head k h, tag-here s k .passes a, room-here s k .passes r, refused _ (length-here s k) n))
   refused-when Cut _ (body-cut k p (((h, a), r), n) c) =
       stopped k Cut p (omega arith)
-      (simp (head k h, tag-here s k .passes a, lt-leb 258 k r, length-here s k .passes n, lt-ltb (length s - fieldAt s k - 3) (lengthAt s k) (omega arith)))
+      (simp (head k h, tag-here s k .passes a, room-here s k .passes r, length-here s k .passes n, lt-ltb (length s - fieldAt s k - 3) (lengthAt s k) (omega arith)))
   refused-when Value _ (wrong-value k p ((((h, a), r), n), i) v) =
       stopped k Value p (omega arith)
-      (simp (head k h, tag-here s k .passes a, lt-leb 258 k r, length-here s k .passes n, body k i, refused _ (value-here s k (((h, a), r), n)) v))
+      (simp (head k h, tag-here s k .passes a, room-here s k .passes r, length-here s k .passes n, body k i, refused _ (value-here s k (((h, a), r), n)) v))
   refused-when Forward _ (not-below k p (((((h, a), r), n), i), v) c) =
       stopped k Forward p (omega arith)
-      (simp (head k h, tag-here s k .passes a, lt-leb 258 k r, length-here s k .passes n, body k i, value-here s k (((h, a), r), n) .passes v, refused _ (child-here s k) c))
-  refused-when Unfinished _ (no-node n c h) = whole n c ∙ simp (lt-ltb n 3 h)
-  refused-when Deep _ (too-deep n c d) =
-      let e : n + 3 - 3 ≡ n = omega arith in
-      whole (n + 3) c ∙ simp (le-ltb (n + 3) 3 (omega arith), e, lt-ltb 24 (depth (treeAt s n)) d)
-  refused-when Long _ (too-long n c d v) =
-      let e : n + 3 - 3 ≡ n = omega arith in
-      whole (n + 3) c ∙ simp (le-ltb (n + 3) 3 (omega arith), e, le-ltb 24 (depth (treeAt s n)) d, lt-ltb 100000 (visits (treeAt s n)) v)
-  refused-when Lines _ (too-wide n c d v w) =
-      let e : n + 3 - 3 ≡ n = omega arith in
-      let f : n + 3 - 2 ≡ suc n = omega arith in
-      whole (n + 3) c
+      (simp (head k h, tag-here s k .passes a, room-here s k .passes r, length-here s k .passes n, body k i, value-here s k (((h, a), r), n) .passes v, refused _ (child-here s k) c))
+  refused-when Entry _ (no-entry k p ((((h, a), r), n), i) t l) =
+      let v = value-here s k (((h, a), r), n) .passes (ValueRule.entry t) in
+      let c = child-here s k .passes (record { children = λ lo hi. absurd (omega arith); loop = λ e. absurd (omega arith) }) in
+      stopped k Entry p (omega arith)
+      (simp (head k h, tag-here s k .passes a, room-here s k .passes r, length-here s k .passes n, body k i, v, c, refused _ (entry-here s k) (λ e. let m = e t in omega arith)))
+  refused-when Unfinished _ (no-node n c h) = unfinished n c h
+  refused-when Deep _ (too-deep n e x d) = whole n e x ∙ simp (lt-ltb 24 (depth (treeAt s e)) d)
+  refused-when Long _ (too-long n e x d v) = whole n e x ∙ simp (le-ltb 24 (depth (treeAt s e)) d, lt-ltb 100000 (visits (treeAt s e)) v)
+  refused-when Lines _ (too-wide n e x d v w) =
+      whole n e x
       ∙ simp (
-        le-ltb (n + 3) 3 (omega arith),
-        e,
-        f,
-        le-ltb 24 (depth (treeAt s n)) d,
-        le-ltb 100000 (visits (treeAt s n)) v,
-        lt-ltb 1024 (said s .period * power (linesOf s (suc n))) w,
+        le-ltb 24 (depth (treeAt s e)) d,
+        le-ltb 100000 (visits (treeAt s e)) v,
+        lt-ltb 1024 (said s .period * power (linesOf s n)) w,
       )
 
   pub when-refused : (r : Refusal) (place : ℕ) → judged s ≡ Refused r place → Condition s r place
@@ -87,20 +92,14 @@ module _ (s : List ℕ) where
   when-accepted t e = subst (VerdictSays s) e (says s)
 
   -- a whole scan ends with the image: its fuel never runs out
-  pub whole-ends : (n : ℕ) → scan s ≡ Whole n → Complete s n
-  whole-ends n e = subst (EndSays s) e (scan-says s)
+  pub whole-ends : (n entry : ℕ) → scan s ≡ Whole n entry → Ending s n entry
+  whole-ends n entry e = subst (EndSays s) e (scan-says s)
 
   pub accepted-when : (t : Outline) → Accepting s t → judged s ≡ Accepted t
   unfolding wholeOf
   accepted-when t a =
-      let n = t .nodes + 2 in
-      let e : n - 3 ≡ t .entry = omega (arith, a .last) in
-      let q : n - 2 ≡ t .nodes = omega arith in
-      whole n (a .complete)
+      whole (t .nodes) (t .entry) (a .ending)
       ∙ simp (
-        le-ltb n 3 (omega (arith, a .last)),
-        e,
-        q,
         le-ltb 24 (depth (treeAt s (t .entry))) (a .shallow),
         le-ltb 100000 (visits (treeAt s (t .entry))) (a .short),
         sym (a .lines),
@@ -110,22 +109,23 @@ module _ (s : List ℕ) where
         sym (a .starts),
       )
 
-  -- judging answers the first nine of the list, and 18
-  pub own-numbers : (r : Refusal) (place : ℕ) → judged s ≡ Refused r place → (numberOf r ≤ 9) ⊎ (numberOf r ≡ 18)
+  -- judging answers the first nine of the list, 11 and 18
+  pub own-numbers : (r : Refusal) (place : ℕ) → judged s ≡ Refused r place → (numberOf r ≤ 9) ⊎ ((numberOf r ≡ 11) ⊎ (numberOf r ≡ 18))
   own-numbers r place e = own (when-refused r place e)
     where
-      own : {r′ : Refusal} {place′ : ℕ} → Condition s r′ place′ → (numberOf r′ ≤ 9) ⊎ (numberOf r′ ≡ 18)
+      own : {r′ : Refusal} {place′ : ℕ} → Condition s r′ place′ → (numberOf r′ ≤ 9) ⊎ ((numberOf r′ ≡ 11) ⊎ (numberOf r′ ≡ 18))
       own (head-cut k p l h) = inl (omega arith)
       own (wrong-tag k p h t) = inl (omega arith)
-      own (one-more p u) = inl (omega arith)
+      own (one-more p u ne) = inl (omega arith)
       own (wrong-length k p u l) = inl (omega arith)
       own (body-cut k p u b) = inl (omega arith)
       own (wrong-value k p u v) = inl (omega arith)
       own (not-below k p u c) = inl (omega arith)
+      own (no-entry k p u t l) = inr (inl refl)
       own (no-node n c h) = inl (omega arith)
-      own (too-deep n c h) = inl (omega arith)
-      own (too-long n c h v) = inl (omega arith)
-      own (too-wide n c h v w) = inr refl
+      own (too-deep n e c h) = inl (omega arith)
+      own (too-long n e c h v) = inl (omega arith)
+      own (too-wide n e c h v w) = inr (inr refl)
 
   -- "The first that holds is returned; an image is accepted when none holds."
   pub accepted-if-none : ((r : Refusal) (place : ℕ) → Condition s r place → ⊥) → (t : Outline) × (judged s ≡ Accepted t)

@@ -6,23 +6,26 @@ use native.Mathlib.Omega.{arith}
 use Prim.Native.Nat.{ℕ, zero, suc, _+_, _-_, _≤_}
 use lib.ListN.{length, length-append}
 use Rattle.runs.specs.Nodes.{Node, tree, linesTo}
-use Rattle.bytes.proofs.Agreeing.{Agree, agree-here, agree-word, agree-bytes, behind}
+use Rattle.bytes.proofs.Agreeing.{Agree, agree-here, word-here, agree-word, agree-bytes, behind}
 use Rattle.schedule.specs.Said.{said}
-use Rattle.rows.specs.Tests.{valueOk, childrenOk}
-use Rattle.rows.specs.Fields.{fieldAt, tagAt, lengthAt, bodyAt, UpToTag, UpToLength, UpToValue, GoodField, Passed}
+use lib.Dec.{eqb}
+use borrow.Author.Tests.{ne-eqb}
+use Rattle.bytes.specs.Bytes.{wordAt}
+use Rattle.rows.specs.Tests.{valueOk, childrenOk, entryOk}
+use Rattle.rows.specs.Fields.{fieldAt, tagAt, lengthAt, bodyAt, closedAt, UpToTag, UpToRoom, UpToLength, UpToBody, UpToValue, GoodField, Passed}
 use Rattle.nodes.specs.Nodes.{nodeAt, linesOf, treeAt}
 use Rattle.image.specs.Tasks.{startsOf}
-use Rattle.image.specs.Conditions.{Complete, Condition, head-cut, wrong-tag, one-more, wrong-length, body-cut, wrong-value, not-below, no-node, too-deep, too-long, too-wide, Accepting}
+use Rattle.image.specs.Conditions.{Complete, Ending, last, named, Condition, head-cut, wrong-tag, one-more, wrong-length, body-cut, wrong-value, not-below, no-entry, no-node, too-deep, too-long, too-wide, Accepting}
 use Rattle.image.specs.Judged.{judged}
 use Rattle.image.specs.Moved.{moved}
 use Rattle.refusals.specs.declared.Refusal.{Refusal}
 use Rattle.image.specs.declared.Outline.{Outline}
 use Rattle.image.specs.declared.Verdict.{Verdict}
 use Rattle.image.specs.declared.Verdict.the-variants.{Accepted, Refused}
-use Rattle.rows.proofs.Rules.{carries, value-here, child-here}
-use Rattle.rows.proofs.Kept.{good-head, good-tag, good-length, good-body, good-value}
+use Rattle.rows.proofs.Rules.{carries, value-here, child-here, entry-here}
+use Rattle.rows.proofs.Kept.{good-head, good-tag, good-length, good-body, good-value, first-open}
 use Rattle.rows.proofs.Standing.{next-at, first-at}
-use Rattle.rows.proofs.Reading.{covers-more, agree-value, agree-children}
+use Rattle.rows.proofs.Reading.{covers-more, agree-value, agree-children, agree-entry}
 use Rattle.nodes.proofs.Reading.{agree-node}
 use Rattle.image.proofs.Reasons.{refused-when, when-refused, when-accepted, accepted-when}
 
@@ -74,6 +77,10 @@ module _ (a c rest : List ℕ) (d : ℕ) (h : Instead a c rest d) where
   tag-moved : (k : ℕ) → tagAt e (suc k) ≡ tagAt s (suc k)
   tag-moved k = let p = fieldAt s (suc k) in rw (place-moved k) (agree-here s e p (p + d) 1 (agree p 1 (behind-first k)) (omega arith))
 
+  closed-moved : (k : ℕ) → closedAt e (suc k) ≡ closedAt s (suc k)
+  closed-moved zero = ne-eqb (tagAt e 0) 8 (first-open e (h .good′)) ∙ sym (ne-eqb (tagAt s 0) 8 (first-open s (h .good)))
+  closed-moved (suc k) = ap (λ (t : ℕ). eqb t 8) (tag-moved k)
+
   body-moved : (k : ℕ) → bodyAt e (suc k) ≡ bodyAt s (suc k) + d
   body-moved k = omega (arith, place-moved k)
 
@@ -95,6 +102,13 @@ module _ (a c rest : List ℕ) (d : ℕ) (h : Instead a c rest d) where
       rw (tag-moved k, length-moved k, body-moved k)
       (agree-children s e t (bodyAt s (suc k)) (bodyAt s (suc k) + d) n (6 + n) (covers-more t n) (body-agrees k (6 + n)) (suc k))
 
+  entry-moved : (k : ℕ) → entryOk e (tagAt e (suc k)) (bodyAt e (suc k)) (suc k) ≡ entryOk s (tagAt s (suc k)) (bodyAt s (suc k)) (suc k)
+  entry-moved k =
+      let t = tagAt s (suc k) in
+      let n = lengthAt s (suc k) in
+      rw (tag-moved k, body-moved k)
+      (agree-entry s e t (bodyAt s (suc k)) (bodyAt s (suc k) + d) n (6 + n) (covers-more t n) (body-agrees k (6 + n)) (suc k))
+
   -- so it is good where it was, and the same fields fill the image
   head-moved : (k : ℕ) → fieldAt s (suc k) + 3 ≤ length s → fieldAt e (suc k) + 3 ≤ length e
   head-moved k l = omega (arith, place-moved k, long)
@@ -103,18 +117,28 @@ module _ (a c rest : List ℕ) (d : ℕ) (h : Instead a c rest d) where
   ends-moved k l = omega (arith, place-moved k, length-moved k, long)
 
   tag-on : (k : ℕ) → UpToTag s (suc k) → UpToTag e (suc k)
-  tag-on k (h, a) = (head-moved k h, rw (tag-moved k) a)
+  tag-on k (h, a) = (head-moved k h, rw (tag-moved k, closed-moved k) a)
+
+  room-on : (k : ℕ) → UpToRoom s (suc k) → UpToRoom e (suc k)
+  room-on k (u, r) = (tag-on k u, rw (tag-moved k) r)
 
   length-on : (k : ℕ) → UpToLength s (suc k) → UpToLength e (suc k)
-  length-on k ((u, r), n) = ((tag-on k u, r), rw (tag-moved k, length-moved k) n)
+  length-on k (u, n) = (room-on k u, rw (tag-moved k, length-moved k) n)
+
+  body-on : (k : ℕ) → UpToBody s (suc k) → UpToBody e (suc k)
+  body-on k (u, i) = (length-on k u, ends-moved k i)
 
   value-on : (k : ℕ) → UpToValue s (suc k) → UpToValue e (suc k)
   value-on k ((u, i), v) =
-      ((length-on k u, ends-moved k i), carries (value-here s (suc k) u) (value-here e (suc k) (length-on k u)) (sym (value-moved k)) v)
+      (body-on k (u, i), carries (value-here s (suc k) u) (value-here e (suc k) (length-on k u)) (sym (value-moved k)) v)
 
   good-moved : (k : ℕ) → GoodField s k → GoodField e k
   good-moved zero g = h .good′
-  good-moved (suc k) (u, c) = (value-on k u, carries (child-here s (suc k)) (child-here e (suc k)) (sym (children-moved k)) c)
+  good-moved (suc k) (u, c, x) = (
+      value-on k u,
+      carries (child-here s (suc k)) (child-here e (suc k)) (sym (children-moved k)) c,
+      carries (entry-here s (suc k)) (entry-here e (suc k)) (sym (entry-moved k)) x,
+    )
 
   passed-moved : (n : ℕ) → Passed s n → Passed e n
   passed-moved n p k l = good-moved k (p k l)
@@ -122,6 +146,16 @@ module _ (a c rest : List ℕ) (d : ℕ) (h : Instead a c rest d) where
   complete-moved : (n : ℕ) → Complete s n → Complete e n
   complete-moved zero c = absurd (omega (arith, c .ends, first-at s, good-head s 0 (h .good)))
   complete-moved (suc n) c = record { passed = passed-moved (suc n) (c .passed); ends = omega (arith, place-moved n, c .ends, long) }
+
+  ending-moved : (n entry : ℕ) → Ending s n entry → Ending e n entry
+  ending-moved n entry (last c ne q) =
+      let z : n + 1 ≡ suc n = omega arith in
+      last (complete-moved (n + 2) c) (λ t. ne (rw z (rw (tag-moved n) at (rw z at t)))) q
+  ending-moved n entry (named c t q) =
+      let z : n + 2 ≡ suc (n + 1) = omega arith in
+      let b = bodyAt s (suc (n + 1)) in
+      named (complete-moved (n + 3) c) (rw (z, tag-moved (n + 1)) (rw z at t))
+      (q ∙ rw (z, body-moved (n + 1)) (sym (word-here s e b (b + d) 2 (body-agrees (n + 1) 2) (omega arith))))
 
   -- every node says the same
   node-moved : (n : ℕ) → nodeAt e n ≡ nodeAt s n
@@ -148,8 +182,7 @@ module _ (a c rest : List ℕ) (d : ℕ) (h : Instead a c rest d) where
 
   accepting-moved : (t : Outline) → Accepting s t → Accepting e t
   accepting-moved t x = record {
-    complete = complete-moved (t .nodes + 2) (x .complete);
-    last = x .last;
+    ending = ending-moved (t .nodes) (t .entry) (x .ending);
     shallow = rw (tree-same (t .entry)) (x .shallow);
     short = rw (tree-same (t .entry)) (x .short);
     period = x .period ∙ sym (h .period);
@@ -168,26 +201,30 @@ module _ (a c rest : List ℕ) (d : ℕ) (h : Instead a c rest d) where
   condition-moved r _ (head-cut (suc k) p l x) =
       at r k (head-cut (suc k) (passed-moved (suc k) p) (omega (arith, place-moved k, long)) (omega (arith, place-moved k, long)))
   condition-moved r _ (wrong-tag zero p x f) = absurd (f (good-tag s 0 (h .good)))
-  condition-moved r _ (wrong-tag (suc k) p x f) = at r k (wrong-tag (suc k) (passed-moved (suc k) p) (head-moved k x) (λ a. f (rw (tag-moved k) at a)))
-  condition-moved r _ (one-more p u) = at r 257 (one-more (passed-moved 258 p) (tag-on 257 u))
+  condition-moved r _ (wrong-tag (suc k) p x f) = at r k (wrong-tag (suc k) (passed-moved (suc k) p) (head-moved k x) (λ a. f (rw (tag-moved k, closed-moved k) at a)))
+  condition-moved r _ (one-more p u ne) = at r 257 (one-more (passed-moved 258 p) (tag-on 257 u) (λ t. ne (rw (tag-moved 257) at t)))
   condition-moved r _ (wrong-length zero p u f) = absurd (f (good-length s 0 (h .good)))
-  condition-moved r _ (wrong-length (suc k) p (u, m) f) =
-      at r k (wrong-length (suc k) (passed-moved (suc k) p) (tag-on k u, m) (λ n. f (rw (tag-moved k, length-moved k) at n)))
+  condition-moved r _ (wrong-length (suc k) p u f) =
+      at r k (wrong-length (suc k) (passed-moved (suc k) p) (room-on k u) (λ n. f (rw (tag-moved k, length-moved k) at n)))
   condition-moved r _ (body-cut zero p u y) = absurd (omega (arith, y, good-body s 0 (h .good)))
   condition-moved r _ (body-cut (suc k) p u y) =
       at r k (body-cut (suc k) (passed-moved (suc k) p) (length-on k u) (omega (arith, place-moved k, length-moved k, long)))
   condition-moved r _ (wrong-value zero p u f) = absurd (f (good-value s 0 (h .good)))
   condition-moved r _ (wrong-value (suc k) p (u, y) f) =
-      at r k (wrong-value (suc k) (passed-moved (suc k) p) (length-on k u, ends-moved k y)
+      at r k (wrong-value (suc k) (passed-moved (suc k) p) (body-on k (u, y))
       (λ v. f (carries (value-here e (suc k) (length-on k u)) (value-here s (suc k) u) (value-moved k) v)))
   condition-moved r _ (not-below zero p u f) = absurd (f (h .good .1))
   condition-moved r _ (not-below (suc k) p u f) =
       at r k (not-below (suc k) (passed-moved (suc k) p) (value-on k u) (λ c. f (carries (child-here e (suc k)) (child-here s (suc k)) (children-moved k) c)))
+  condition-moved r _ (no-entry zero p u t l) = absurd (first-open s (h .good) t)
+  condition-moved r _ (no-entry (suc k) p u t l) =
+      let b = bodyAt s (suc k) in
+      at r k (no-entry (suc k) (passed-moved (suc k) p) (body-on k u) (rw (tag-moved k) t) (rw (body-moved k, word-here s e b (b + d) 2 (body-agrees k 2) (omega arith)) l))
   condition-moved r _ (no-node n x l) = rw long at (no-node n (complete-moved n x) l)
-  condition-moved r _ (too-deep n x l) = rw long at (too-deep n (complete-moved (n + 3) x) (rw (tree-same n) l))
-  condition-moved r _ (too-long n x l m) = rw long at (too-long n (complete-moved (n + 3) x) (rw (tree-same n) l) (rw (tree-same n) m))
-  condition-moved r _ (too-wide n x l m w) =
-      rw long at (too-wide n (complete-moved (n + 3) x) (rw (tree-same n) l) (rw (tree-same n) m) (rw (h .period, lines-same (suc n)) w))
+  condition-moved r _ (too-deep n i x l) = rw long at (too-deep n i (ending-moved n i x) (rw (tree-same i) l))
+  condition-moved r _ (too-long n i x l m) = rw long at (too-long n i (ending-moved n i x) (rw (tree-same i) l) (rw (tree-same i) m))
+  condition-moved r _ (too-wide n i x l m w) =
+      rw long at (too-wide n i (ending-moved n i x) (rw (tree-same i) l) (rw (tree-same i) m) (rw (h .period, lines-same n) w))
 
   pub judged-moved : judged e ≡ moved d (judged s)
   judged-moved = by-verdict (judged s) refl

@@ -1,6 +1,7 @@
--- The scan of the code: the fields passed are good and their places stored, so the definition's scan ends as it does.
+-- The scan of the code: the fields passed are good and the nodes' places stored, so the definition's scan ends as it does.
 use mathlib.Core.Path.{_≡_, refl, sym, _∙_, ap, subst}
 use mathlib.Core.Logic.{⊎-elim}
+use mathlib.Core.Bool.{Bool, true, false, cond}
 use mathlib.Core.List.{List}
 use Prim.Native.Nat.{ℕ, zero, suc, _+_, _-_, _≤_, _<_}
 use native.Mathlib.Nat.{not-suc-le-zero, eq-or-lt-of-le, le-of-suc-le-suc}
@@ -8,30 +9,41 @@ use native.Mathlib.Numerals.{add-one}
 use native.Mathlib.Omega.{arith}
 use lib.ListN.{length, getD, set, length-set, replicate, length-replicate}
 use lib.Seq.{getD-set-same, getD-set-other}
-use Rattle.image.specs.Judged.{fieldOf}
-use Rattle.rows.specs.Fields.{fieldAt, GoodField, Passed}
-use Rattle.nodes.specs.Fine.{Placed}
-use Rattle.image.specs.Inner.{Scanned}
+use lib.Dec.{eqb, ltb}
+use borrow.Author.Tests.{eqb-false}
+use Rattle.runs.proofs.Cases.{split, either}
+use Rattle.bytes.specs.Bytes.{byteAt, wordAt}
+use Rattle.image.specs.Judged.{fieldOf, endOf}
+use Rattle.rows.specs.Fields.{fieldAt, tagAt, closedAt, GoodField, Passed}
+use Rattle.image.specs.Inner.{PlacedAll, Scanned}
 use Rattle.refusals.specs.declared.Refusal.{Refusal}
 use Rattle.image.specs.declared.fields.Judgement.the-variants.{Good, Bad}
+use Rattle.image.specs.declared.fields.End.{End}
 use Rattle.image.specs.declared.fields.End.the-variants.{Stopped, Whole}
+use Rattle.rows.proofs.Kept.{good-head, good-tag, good-room, node-room, later-tag}
 use Rattle.rows.proofs.Standing.{first-at, inside, passed-more}
 use Rattle.image.proofs.Passing.{stops, ends}
 use Rattle.image.proofs.Says.{FieldSays, field-says}
 
+-- of so many fields, the last of which has closed the image or not, these are nodes
+abbrev pub nodesOf : ℕ → Bool → ℕ
+nodesOf index closed = cond closed (index - 3) (index - 2)
+
 -- what is known where the field with `index` fields before it should stand
-pub record Here (s places : List ℕ) (index at : ℕ) : Type 0 where
+pub record Here (s places : List ℕ) (index at : ℕ) (closed : Bool) : Type 0 where
   pub place : at ≡ fieldAt s index
   pub passed : Passed s index
-  pub placed : Placed s index places
+  pub last : closed ≡ closedAt s index
+  pub placed : PlacedAll s (nodesOf index closed) places
 
 -- no field is passed yet: the places are all behind the last node
-pub here-first : (s : List ℕ) (x : ℕ) → x ≡ 0 → Here s (replicate 256 x) 0 0
+pub here-first : (s : List ℕ) (x : ℕ) → x ≡ 0 → Here s (replicate 256 x) 0 0 false
 here-first s x e =
     record {
       place = sym (first-at s);
       passed = λ k h. absurd (not-suc-le-zero h);
-      placed = record { long = length-replicate {A = ℕ} 256 x; each = λ k h. absurd (not-suc-le-zero h); behind = λ k h. blank x e 256 k };
+      last = refl;
+      placed = record { long = length-replicate {A = ℕ} 256 x; each = λ k h. absurd (omega arith); behind = λ k h. blank x e 256 k };
     }
   where
     blank : (x : ℕ) → x ≡ 0 → (n k : ℕ) → getD (replicate n x) k 0 ≡ 0
@@ -39,49 +51,101 @@ here-first s x e =
     blank x e (suc n) zero = e
     blank x e (suc n) (suc k) = blank x e n k
 
-module _ (s places : List ℕ) (index at : ℕ) (h : Here s places index at) where
-  pub here-good : (next : ℕ) → at < length s → fieldOf s at index ≡ Good next → GoodField s index × (next ≡ fieldAt s (suc index))
+-- one more node's place is stored
+more-placed : (s places : List ℕ) (n at : ℕ) → PlacedAll s n places → n < 256 → at ≡ fieldAt s (n + 2) → PlacedAll s (suc n) (set places n at)
+more-placed s places n at p few e =
+    record {
+      long = length-set places n at ∙ p .long;
+      each = λ k b.
+          ⊎-elim
+          (λ q. let z : k ≡ n = q in rw z (getD-set-same places n at 0 (omega (arith, p .long)) ∙ e))
+          (λ l. getD-set-other places n k at 0 (λ q. omega arith) ∙ p .each k l)
+          (eq-or-lt-of-le (le-of-suc-le-suc b));
+      behind = λ k b. getD-set-other places n k at 0 (λ q. omega arith) ∙ p .behind k (omega arith);
+    }
+
+module _ (s places : List ℕ) (index at : ℕ) (closed : Bool) (h : Here s places index at closed) where
+  pub here-good : (next : ℕ) → at < length s → fieldOf s at index closed ≡ Good next → GoodField s index × (next ≡ fieldAt s (suc index))
   here-good next l e =
-      subst (FieldSays s index) (rw (h .place) at e) (field-says s index (h .passed) (rw (h .place) at l))
+      subst (FieldSays s index) (rw (h .place, h .last) at e) (field-says s index (h .passed) (rw (h .place) at l))
 
-  pub here-next : (after : List ℕ) (next : ℕ) → at < length s → fieldOf s at index ≡ Good next
-      → Placed s (index + 1) after → Here s after (index + 1) next
-  here-next after next l e placed =
-      let g = here-good next l e in
-      record { place = rw (add-one index) (g .1); passed = passed-more s index (h .passed) (g .0); placed = placed }
+  -- the field there is good
+  module _ (next : ℕ) (l : at < length s) (e : fieldOf s at index closed ≡ Good next) where
+    good : GoodField s index
+    good = here-good next l e .0
 
-  -- a node's place is stored
-  pub placed-more : 2 ≤ index → index < 258 → Placed s (index + 1) (set places (index - 2) at)
-  placed-more two few =
-      record {
-        long = length-set places (index - 2) at ∙ h .placed .long;
-        each = λ k b.
-            ⊎-elim
-            (λ e. let q : k ≡ index - 2 = omega arith in
-            let p : index ≡ k + 2 = omega arith in
-            rw q (getD-set-same places (index - 2) at 0 (omega (arith, h .placed .long)) ∙ h .place ∙ ap (fieldAt s) (p ∙ ap (λ (x : ℕ). x + 2) q)))
-            (λ l. getD-set-other places (index - 2) k at 0 (λ e. omega arith) ∙ h .placed .each k (omega arith))
-            (eq-or-lt-of-le (le-of-suc-le-suc (rw add-one at b)));
-        behind = λ k b. getD-set-other places (index - 2) k at 0 (λ e. omega arith) ∙ h .placed .behind k (omega arith);
-      }
+    -- so the image was not closed before it
+    so-far : nodesOf index closed ≡ index - 2
+    so-far =
+        split 2 index
+        (λ m. ap (nodesOf index) (h .last ∙ later-tag index (closedAt s index) (tagAt s index) m (good-tag s index good)))
+        (λ m. by closed m)
+      where
+        by : (c : Bool) → index < 2 → nodesOf index c ≡ index - 2
+        by true m = omega arith
+        by false m = refl
 
-  pub placed-none : index < 2 → Placed s (index + 1) places
-  placed-none l = record { long = h .placed .long; each = λ k b. absurd (omega arith); behind = λ k b. h .placed .behind k (omega arith) }
+    stored : PlacedAll s (index - 2) places
+    stored = subst (λ (n : ℕ). PlacedAll s n places) so-far (h .placed)
+
+    -- it closes the image, is a node's, or stands before all nodes; t is its tag
+    module _ (t : ℕ) (read : t ≡ byteAt s at) where
+      next-here : (after : List ℕ) (n : ℕ) → nodesOf (index + 1) (eqb t 8) ≡ n → PlacedAll s n after → Here s after (index + 1) next (eqb t 8)
+      next-here after n is p =
+          record {
+            place = rw (add-one index) (here-good next l e .1);
+            passed = passed-more s index (h .passed) good;
+            last = rw (add-one index) (ap (λ (x : ℕ). eqb x 8) (read ∙ ap (byteAt s) (h .place)));
+            placed = subst (λ (m : ℕ). PlacedAll s m after) (sym is) p;
+          }
+
+      pub here-closed : eqb t 8 ≡ true → Here s places (index + 1) next (eqb t 8)
+      here-closed q = next-here places (index - 2) (rw q (omega arith)) stored
+
+      -- a node has room
+      pub here-room : eqb t 8 ≡ false → index < 258
+      here-room q = node-room index (tagAt s index) (λ is. eqb-false t 8 q (read ∙ ap (byteAt s) (h .place) ∙ is)) (good-room s index good)
+
+      pub here-node : eqb t 8 ≡ false → 2 ≤ index → Here s (set places (index - 2) at) (index + 1) next (eqb t 8)
+      here-node q m =
+          let p : index ≡ index - 2 + 2 = omega arith in
+          next-here (set places (index - 2) at) (suc (index - 2)) (rw q (omega arith))
+          (more-placed s places (index - 2) at stored (omega (arith, here-room q)) (h .place ∙ ap (fieldAt s) p))
+
+      pub here-front : eqb t 8 ≡ false → index < 2 → Here s places (index + 1) next (eqb t 8)
+      here-front q m = next-here places (index - 2) (rw q (omega arith)) stored
 
   -- where the scan stops, and at the image's end
-  pub here-stopped : (r : Refusal) → at < length s → fieldOf s at index ≡ Bad r → Scanned s (Stopped r at) places
+  pub here-stopped : (r : Refusal) → at < length s → fieldOf s at index closed ≡ Bad r → Scanned s (Stopped r at) places
   here-stopped r l e =
       record {
-        is = rw (h .place) (sym (stops s index r (h .passed) (rw (h .place) at l) (rw (h .place) at e)));
-        placed = λ n q. absurd (let z : _≡_ {A = ℕ} 0 1 = cc in omega arith);
+        is = rw (h .place) (sym (stops s index r (h .passed) (rw (h .place) at l) (rw (h .place, h .last) at e)));
+        placed = λ n x q. absurd (let z : _≡_ {A = ℕ} 0 1 = cc in omega arith);
       }
 
-  same-count : (m n : ℕ) → Whole m ≡ Whole n → m ≡ n
-  same-count m n e = cc
+  -- a field with tag 8 has a head and more
+  pub here-two : closed ≡ true → 2 ≤ length s
+  here-two t = let c = sym (h .last) ∙ t in by index (h .passed) c
+    where
+      by : (k : ℕ) → Passed s k → closedAt s k ≡ true → 2 ≤ length s
+      by zero p c = absurd (let z : _≡_ {A = ℕ} 0 1 = cc in omega arith)
+      by (suc k) p c = omega (arith, good-head s k (p k (omega arith)))
 
-  pub here-whole : length s ≤ at → Scanned s (Whole index) places
-  here-whole l =
+  same-count : (m a n b : ℕ) → Whole m a ≡ Whole n b → m ≡ n
+  same-count m a n b e = cc
+
+  -- the end has as many nodes as are stored
+  as-many : (c : Bool) (n x : ℕ) → endOf s index c ≡ Whole n x → nodesOf index c ≡ n
+  unfolding endOf
+  as-many c n x e = either (ltb index 3) (λ t. absurd (let f = rw t at e in let z : _≡_ {A = ℕ} 0 1 = cc in omega arith)) (λ t. by c (rw t at e))
+    where
+      by : (c : Bool) → cond c (Whole (index - 3) (wordAt s (length s - 2))) (Whole (index - 2) (index - 3)) ≡ Whole n x → nodesOf index c ≡ n
+      by true q = same-count _ _ n x q
+      by false q = same-count _ _ n x q
+
+  pub here-whole : length s ≤ at → (r : End) → r ≡ endOf s index closed → Scanned s r places
+  here-whole l r e =
       record {
-        is = sym (ends s index (record { passed = h .passed; ends = omega (arith, h .place, inside s index (h .passed)) }));
-        placed = λ n q. rw (same-count index n q) at (h .placed);
+        is = e ∙ ap (endOf s index) (h .last) ∙ sym (ends s index (record { passed = h .passed; ends = omega (arith, h .place, inside s index (h .passed)) }));
+        placed = λ n x q. subst (λ (m : ℕ). PlacedAll s m places) (as-many closed n x (sym e ∙ q)) (h .placed);
       }

@@ -12,7 +12,7 @@ use Rattle.runs.specs.Exact.{InRange, ValidTask}
 use Rattle.runs.proofs.Unlined.{exit-exact}
 use Rattle.bytes.specs.Bytes.{byteAt}
 use Rattle.schedule.specs.Said.{said, Ranged}
-use Rattle.rows.specs.Fields.{fieldAt, lengthAt, bodyAt, GoodField}
+use Rattle.rows.specs.Fields.{fieldAt, lengthAt, bodyAt, GoodField, Unclosed}
 use Rattle.nodes.specs.Nodes.{nodeOf, meant, nodeAt}
 use Rattle.image.specs.Tasks.{startsOf, taskOf}
 use Rattle.image.specs.Judged.{judged}
@@ -25,17 +25,24 @@ use Rattle.nodes.specs.declared.Node.the-variants.{Plain, Bus as Block, Once, S
 use Rattle.image.specs.declared.Outline.{Outline}
 use Rattle.image.specs.declared.Verdict.the-variants.{Accepted}
 use Rattle.nodes.proofs.Lists.{words-some, is-listed}
-use Rattle.rows.proofs.Standing.{few, fewer, inside}
+use Rattle.rows.proofs.Standing.{inside, unclosed-few, unclosed-fewer, unclosed-passed}
 use Rattle.nodes.proofs.Kept.{node-fine}
 use Rattle.rows.proofs.Kept.{first-fine, starts-count, starts-fine}
 use Rattle.schedule.proofs.Sayings.{said-lawful, said-small}
 use Rattle.nodes.proofs.Levels.{falls}
 use Rattle.nodes.proofs.Fetches.{lines-few, no-lines}
+use Rattle.image.proofs.Endings.{nodes-stand, entry-low}
 use Rattle.image.proofs.Reasons.{when-accepted}
 
 module _ (s : List ℕ) (t : Outline) (a : Accepting s t) where
+  pub stand : Unclosed s (t .nodes + 2)
+  stand = nodes-stand s (t .nodes) (t .entry) (a .ending)
+
+  pub entry-below : t .entry < t .nodes
+  entry-below = entry-low s (t .nodes) (t .entry) (a .ending)
+
   good : (k : ℕ) → k < t .nodes + 2 → GoodField s k
-  good k l = a .complete .passed k l
+  good k l = stand k l .0
 
   pub ranged-kept : Ranged s
   ranged-kept = first-fine s (good 0 (omega arith))
@@ -47,7 +54,7 @@ module _ (s : List ℕ) (t : Outline) (a : Accepting s t) where
   count-kept = rw (a .starts) (starts-count s (good 1 (omega arith)))
 
   pub node-kept : (k : ℕ) → k < t .nodes → Fine s k (nodeOf s (fieldAt s (k + 2)))
-  node-kept k l = node-fine s k (good (k + 2) (omega arith))
+  node-kept k l = node-fine s k (stand (k + 2) (omega arith))
 
   pub sound : (places : List ℕ) → ((k : ℕ) → k < t .nodes → getD places k 0 ≡ fieldAt s (k + 2)) → Sound s t places
   sound places p =
@@ -57,12 +64,12 @@ module _ (s : List ℕ) (t : Outline) (a : Accepting s t) where
         starts-some = count-kept .0;
         starts-few = count-kept .1;
         starts = starts-kept;
-        some = omega (arith, a .last);
-        few = omega (arith, few s (t .nodes + 2) (a .complete .passed));
+        entry = entry-below;
+        few = omega (arith, unclosed-few s (t .nodes + 2) stand);
         placed = p;
-        inside = λ k l. inside s (k + 2) (fewer s (k + 2) (t .nodes + 2) (omega arith) (a .complete .passed));
+        inside = λ k l. inside s (k + 2) (unclosed-passed s (k + 2) (unclosed-fewer s (k + 2) (t .nodes + 2) (omega arith) stand));
         fine = node-kept;
-        lines-few = rw (a .lines) (lines-few s (t .nodes) (a .complete .passed));
+        lines-few = rw (a .lines) (lines-few s (t .nodes) stand);
       }
 
 -- the ranges of a node's row are those that the theorem asks for
@@ -88,22 +95,23 @@ pub accepted : (s : List ℕ) (t : Outline) → judged s ≡ Accepted t → Vali
 accepted s t e =
     let a = when-accepted s t e in
     let r = ranged-kept s t a in
-    let p = fewer s (t .entry + 3) (t .nodes + 2) (omega (arith, a .last)) (a .complete .passed) in
+    let low = entry-below s t a in
+    let p = unclosed-fewer s (t .entry + 3) (t .nodes + 2) (omega arith) (stand s t a) in
     record {
       lawful = said-lawful s r;
       small = let (period, most) = said-small s r in omega arith;
       start = first s (t .starts) (a .starts) (count-kept s t a .0) (starts-kept s t a);
       falls = falls s (t .entry) p;
-      ranges = λ n l. range-at s n (node-kept s t a n (omega (arith, a .last)));
+      ranges = λ n l. range-at s n (node-kept s t a n (omega arith));
     }
 
 -- node k of a sound task stands at its place, so `tree-here` and `fine-here` of crate nodes say what it is
 pub standing : (s : List ℕ) (t : Outline) (places : List ℕ) → Sound s t places → (k : ℕ) → k < t .nodes → Standing s k (getD places k 0)
-standing s t places h k l = record { passed = fewer s (k + 3) (t .nodes + 2) (omega arith) (h .accepting .complete .passed); place = h .placed k l }
+standing s t places h k l = record { passed = unclosed-fewer s (k + 3) (t .nodes + 2) (omega arith) (stand s t (h .accepting)); place = h .placed k l }
 
 -- of an image of no lines the published exit set has exactly the offsets at which runs end
 pub unlined-exits : (s : List ℕ) (t : Outline) → judged s ≡ Accepted t → t .lines ≡ 0
     → (o : ℕ) → o < taskOf s t .bus .period → getD (exitSet (taskOf s t)) o false ≡ held (getD (exitTimes (taskOf s t)) o none)
 unlined-exits s t e z =
     let a = when-accepted s t e in
-    exit-exact (taskOf s t) (accepted s t e) (λ n l. no-lines s (t .nodes) (sym (a .lines) ∙ z) n (omega (arith, a .last)))
+    exit-exact (taskOf s t) (accepted s t e) (λ n l. no-lines s (t .nodes) (sym (a .lines) ∙ z) n (omega (arith, entry-below s t a)))

@@ -89,7 +89,7 @@ module _ (s : List ℕ) (k : Walk) (places : List ℕ) (w : Walkable s k places)
     valid-at = rw (w .same .most) (node-valid (taskOf s (k .outline)) (w .accepted) n (omega arith))
 
     here : Standing s n (getD places n 0)
-    here = standing s (k .outline) places (w .sound) n (omega (arith, w .sound .accepting .last))
+    here = standing s (k .outline) places (w .sound) n (omega (arith, w .sound .entry))
 
     pub node-place : (getD places n 0 ≤ length s) × (n < 256)
     node-place = (inside-here s n _ here, few-here s n _ here)
@@ -114,7 +114,7 @@ module _ (s : List ℕ) (k : Walk) (places : List ℕ) (w : Walkable s k places)
     unfolding meant treeBy Fine
     as-once x e =
         let f = fine-here s n _ here (Once x) e in
-        let l : x .line + 1 ≤ k .outline .lines = rw (w .sound .accepting .lines, ← ap nodeLines (node-here s n _ here (Once x) e)) (line-below s n (k .outline .nodes) (omega (arith, w .sound .accepting .last))) in
+        let l : x .line + 1 ≤ k .outline .lines = rw (w .sound .accepting .lines, ← ap nodeLines (node-here s n _ here (Once x) e)) (line-below s n (k .outline .nodes) (omega (arith, w .sound .entry))) in
         (tree-here s n _ here (Once x) e, f .access .some, f .access .order, omega (arith, f .access .most, most-is), f .hit-most, omega arith, f .access .byte)
 
     pub as-sequence : (c : Children) → nodeOf s (getD places n 0) ≡ Sequence c

@@ -8,19 +8,19 @@ use Rattle.runs.specs.Lines.{power}
 use Rattle.runs.specs.Nodes.{trees, treeBy, treeTo, tree, depth, visits, linesTo}
 use Rattle.bytes.specs.Bytes.{wordAt, words}
 use Rattle.schedule.specs.Said.{busOk, turnsAt, turnsOk, hasPair, scheduleOk, said}
-use Rattle.rows.specs.Tests.{tagOk, nodeLengthOk, lengthOk, startsOk, plainOk, accessOk, blockOk, onceOk, loopOk, nodeValueOk, valueOk, below, childrenOk}
-use Rattle.image.specs.Judged.{fieldOf, scanFrom, scan, wholeOf, judged, refused, numbered}
+use Rattle.rows.specs.Tests.{tagOk, roomOk, nodeLengthOk, lengthOk, startsOk, plainOk, accessOk, blockOk, onceOk, loopOk, nodeValueOk, valueOk, below, childrenOk, entryOk}
+use Rattle.image.specs.Judged.{fieldOf, endOf, scanFrom, scan, wholeOf, judged, refused, numbered}
 use Rattle.rows.specs.Fields.{fieldAt}
 use Rattle.nodes.specs.Nodes.{nodeFrom, meant, nodeAt}
 use Rattle.image.specs.declared.Verdict.the-variants.{Accepted}
 
 -- "An empty image gives 7 at place 0"; one byte is a cut head.
 empty : numbered [] ≡ refused 7 "unfinished" 0
-unfolding scanFrom scan wholeOf judged
+unfolding endOf scanFrom scan wholeOf judged
 empty = refl
 
 one : numbered (255 ∷ []) ≡ refused 1 "cut" 0
-unfolding scanFrom scan wholeOf judged fieldOf
+unfolding endOf scanFrom scan wholeOf judged fieldOf
 one = refl
 
 -- A2 twice from {3, 5}
@@ -29,21 +29,21 @@ front = 1 ∷ 0 ∷ 3 ∷ 2 ∷ 5 ∷ 0 ∷ 2 ∷ 0 ∷ 2 ∷ 3 ∷ 5 ∷ 4 ∷ 
 
 twice : judged (front ++ 5 ∷ 0 ∷ 4 ∷ 0 ∷ 0 ∷ 0 ∷ 0 ∷ [])
     ≡ Accepted (record { period = 10; starts = 2; lines = 0; sets = 1; nodes = 2; entry = 1 })
-unfolding wordAt words tagOk nodeLengthOk lengthOk busOk startsOk plainOk accessOk blockOk onceOk loopOk nodeValueOk valueOk below childrenOk fieldOf said equalSlots fieldAt nodeFrom meant nodeAt trees treeBy treeTo tree depth visits power linesTo scanFrom scan wholeOf judged
+unfolding wordAt words tagOk roomOk nodeLengthOk lengthOk busOk startsOk plainOk accessOk blockOk onceOk loopOk nodeValueOk valueOk below childrenOk entryOk fieldOf said equalSlots fieldAt nodeFrom meant nodeAt trees treeBy treeTo tree depth visits power linesTo endOf scanFrom scan wholeOf judged
 twice = refl
 
 -- "16 cores × slot 16 is accepted, 16 × 17 gives 5"; the first ends after its bus.
 square : numbered (1 ∷ 0 ∷ 3 ∷ 16 ∷ 16 ∷ 0 ∷ []) ≡ refused 7 "unfinished" 6
-unfolding wordAt tagOk nodeLengthOk lengthOk busOk nodeValueOk valueOk childrenOk fieldOf said scanFrom scan wholeOf judged
+unfolding wordAt tagOk roomOk nodeLengthOk lengthOk busOk nodeValueOk valueOk childrenOk entryOk fieldOf said endOf scanFrom scan wholeOf judged
 square = refl
 
 wide : numbered (1 ∷ 0 ∷ 3 ∷ 16 ∷ 17 ∷ 0 ∷ []) ≡ refused 5 "value" 0
-unfolding wordAt tagOk nodeLengthOk lengthOk busOk nodeValueOk valueOk fieldOf scanFrom scan wholeOf judged
+unfolding wordAt tagOk roomOk nodeLengthOk lengthOk busOk nodeValueOk valueOk fieldOf endOf scanFrom scan wholeOf judged
 wide = refl
 
 -- a child equal to the node's own number gives 6
 self : numbered (front ++ 5 ∷ 0 ∷ 2 ∷ 0 ∷ 1 ∷ []) ≡ refused 6 "forward" 17
-unfolding wordAt tagOk nodeLengthOk lengthOk busOk startsOk plainOk accessOk blockOk onceOk loopOk nodeValueOk valueOk below childrenOk fieldOf said equalSlots scanFrom scan wholeOf judged
+unfolding wordAt tagOk roomOk nodeLengthOk lengthOk busOk startsOk plainOk accessOk blockOk onceOk loopOk nodeValueOk valueOk below childrenOk entryOk fieldOf said equalSlots endOf scanFrom scan wholeOf judged
 self = refl
 
 -- "A loop of 10,000 over a block, inside a loop of 9: 90,010 visits, accepted. Inside a loop of 10: 100,011, gives 9."
@@ -51,21 +51,45 @@ abbrev loops : ℕ → List ℕ
 loops n = front ++ 7 ∷ 0 ∷ 6 ∷ 0 ∷ 0 ∷ 39 ∷ 16 ∷ 0 ∷ 0 ∷ 7 ∷ 0 ∷ 6 ∷ 0 ∷ 0 ∷ 0 ∷ n ∷ 0 ∷ 1 ∷ []
 
 nine : judged (loops 9) ≡ Accepted (record { period = 10; starts = 2; lines = 0; sets = 1; nodes = 3; entry = 2 })
-unfolding wordAt words tagOk nodeLengthOk lengthOk busOk startsOk plainOk accessOk blockOk onceOk loopOk nodeValueOk valueOk below childrenOk fieldOf said equalSlots fieldAt nodeFrom meant nodeAt trees treeBy treeTo tree depth visits power linesTo scanFrom scan wholeOf judged
+unfolding wordAt words tagOk roomOk nodeLengthOk lengthOk busOk startsOk plainOk accessOk blockOk onceOk loopOk nodeValueOk valueOk below childrenOk entryOk fieldOf said equalSlots fieldAt nodeFrom meant nodeAt trees treeBy treeTo tree depth visits power linesTo endOf scanFrom scan wholeOf judged
 nine = refl
 
 ten : numbered (loops 10) ≡ refused 9 "long" 35
-unfolding wordAt words tagOk nodeLengthOk lengthOk busOk startsOk plainOk accessOk blockOk onceOk loopOk nodeValueOk valueOk below childrenOk fieldOf said equalSlots fieldAt nodeFrom meant nodeAt trees treeBy treeTo tree depth visits power linesTo scanFrom scan wholeOf judged
+unfolding wordAt words tagOk roomOk nodeLengthOk lengthOk busOk startsOk plainOk accessOk blockOk onceOk loopOk nodeValueOk valueOk below childrenOk entryOk fieldOf said equalSlots fieldAt nodeFrom meant nodeAt trees treeBy treeTo tree depth visits power linesTo endOf scanFrom scan wholeOf judged
 ten = refl
+
+-- W1: the same images, closed by a field that names the loop of 10,000, whatever stands behind it; number 3 is no node's, nor is there another field
+abbrev naming : ℕ → List ℕ
+naming n = 8 ∷ 0 ∷ 2 ∷ 0 ∷ n ∷ []
+
+inner : judged (loops 10 ++ naming 1) ≡ Accepted (record { period = 10; starts = 2; lines = 0; sets = 1; nodes = 3; entry = 1 })
+unfolding wordAt words tagOk roomOk nodeLengthOk lengthOk busOk startsOk plainOk accessOk blockOk onceOk loopOk nodeValueOk valueOk below childrenOk entryOk fieldOf said equalSlots fieldAt nodeFrom meant nodeAt trees treeBy treeTo tree depth visits power linesTo endOf scanFrom scan wholeOf judged
+inner = refl
+
+outer : numbered (loops 10 ++ naming 2) ≡ refused 9 "long" 40
+unfolding wordAt words tagOk roomOk nodeLengthOk lengthOk busOk startsOk plainOk accessOk blockOk onceOk loopOk nodeValueOk valueOk below childrenOk entryOk fieldOf said equalSlots fieldAt nodeFrom meant nodeAt trees treeBy treeTo tree depth visits power linesTo endOf scanFrom scan wholeOf judged
+outer = refl
+
+no-node : numbered (loops 10 ++ naming 3) ≡ refused 11 "entry" 35
+unfolding wordAt words tagOk roomOk nodeLengthOk lengthOk busOk startsOk plainOk accessOk blockOk onceOk loopOk nodeValueOk valueOk below childrenOk entryOk fieldOf said equalSlots fieldAt nodeFrom meant nodeAt trees treeBy treeTo tree depth visits power linesTo endOf scanFrom scan wholeOf judged
+no-node = refl
+
+again : numbered (loops 9 ++ naming 1 ++ naming 1) ≡ refused 2 "tag" 40
+unfolding wordAt words tagOk roomOk nodeLengthOk lengthOk busOk startsOk plainOk accessOk blockOk onceOk loopOk nodeValueOk valueOk below childrenOk entryOk fieldOf said equalSlots fieldAt nodeFrom meant nodeAt trees treeBy treeTo tree depth visits power linesTo endOf scanFrom scan wholeOf judged
+again = refl
+
+early : numbered (1 ∷ 0 ∷ 3 ∷ 2 ∷ 5 ∷ 0 ∷ 2 ∷ 0 ∷ 1 ∷ 0 ∷ naming 0) ≡ refused 2 "tag" 10
+unfolding wordAt words tagOk roomOk nodeLengthOk lengthOk busOk startsOk plainOk accessOk blockOk onceOk loopOk nodeValueOk valueOk below childrenOk entryOk fieldOf said equalSlots fieldAt nodeFrom meant nodeAt trees treeBy treeTo tree depth visits power linesTo endOf scanFrom scan wholeOf judged
+early = refl
 
 -- W9: a block with line 1 gives two lines, so four sets; with line 2 a period of 256 gives 256 × 8 places, which is 18.
 fetched : judged (front ++ 10 ∷ 0 ∷ 5 ∷ 1 ∷ 2 ∷ 3 ∷ 0 ∷ 9 ∷ [])
     ≡ Accepted (record { period = 10; starts = 2; lines = 2; sets = 4; nodes = 2; entry = 1 })
-unfolding wordAt words tagOk nodeLengthOk lengthOk busOk startsOk plainOk accessOk blockOk onceOk loopOk nodeValueOk valueOk below childrenOk fieldOf said equalSlots fieldAt nodeFrom meant nodeAt trees treeBy treeTo tree depth visits power linesTo scanFrom scan wholeOf judged
+unfolding wordAt words tagOk roomOk nodeLengthOk lengthOk busOk startsOk plainOk accessOk blockOk onceOk loopOk nodeValueOk valueOk below childrenOk entryOk fieldOf said equalSlots fieldAt nodeFrom meant nodeAt trees treeBy treeTo tree depth visits power linesTo endOf scanFrom scan wholeOf judged
 fetched = refl
 
 eighteen : numbered (1 ∷ 0 ∷ 3 ∷ 2 ∷ 128 ∷ 0 ∷ 2 ∷ 0 ∷ 1 ∷ 0 ∷ 10 ∷ 0 ∷ 5 ∷ 2 ∷ 1 ∷ 1 ∷ 0 ∷ 1 ∷ []) ≡ refused 18 "lines" 18
-unfolding wordAt words tagOk nodeLengthOk lengthOk busOk startsOk plainOk accessOk blockOk onceOk loopOk nodeValueOk valueOk below childrenOk fieldOf said equalSlots fieldAt nodeFrom meant nodeAt trees treeBy treeTo tree depth visits power linesTo scanFrom scan wholeOf judged
+unfolding wordAt words tagOk roomOk nodeLengthOk lengthOk busOk startsOk plainOk accessOk blockOk onceOk loopOk nodeValueOk valueOk below childrenOk entryOk fieldOf said equalSlots fieldAt nodeFrom meant nodeAt trees treeBy treeTo tree depth visits power linesTo endOf scanFrom scan wholeOf judged
 eighteen = refl
 
 -- W5: core 0 has slots of 2, 2 and 1 in a period of 10, of which the last joins the first: an access of 3 cycles is accepted, one of 4 gives 5.
@@ -73,11 +97,11 @@ abbrev round : ℕ → List ℕ
 round e = 9 ∷ 0 ∷ 11 ∷ 0 ∷ 0 ∷ 2 ∷ 1 ∷ 3 ∷ 0 ∷ 2 ∷ 1 ∷ 2 ∷ 0 ∷ 1 ∷ 2 ∷ 0 ∷ 1 ∷ 9 ∷ 4 ∷ 0 ∷ 3 ∷ 2 ∷ e ∷ e ∷ []
 
 three : judged (round 3) ≡ Accepted (record { period = 10; starts = 1; lines = 0; sets = 1; nodes = 1; entry = 0 })
-unfolding wordAt words tagOk nodeLengthOk lengthOk turnsAt turnsOk hasPair scheduleOk total owns any lastOf ownsNext owning startsOk accessOk blockOk nodeValueOk valueOk below childrenOk fieldOf said fieldAt nodeFrom meant nodeAt trees treeBy treeTo tree depth visits power linesTo scanFrom scan wholeOf judged
+unfolding wordAt words tagOk roomOk nodeLengthOk lengthOk turnsAt turnsOk hasPair scheduleOk total owns any lastOf ownsNext owning startsOk accessOk blockOk nodeValueOk valueOk below childrenOk entryOk fieldOf said fieldAt nodeFrom meant nodeAt trees treeBy treeTo tree depth visits power linesTo endOf scanFrom scan wholeOf judged
 three = refl
 
 four : numbered (round 4) ≡ refused 5 "value" 18
-unfolding wordAt tagOk nodeLengthOk lengthOk turnsAt turnsOk hasPair scheduleOk total owns any lastOf ownsNext owning startsOk accessOk blockOk nodeValueOk valueOk below childrenOk fieldOf said scanFrom scan wholeOf judged
+unfolding wordAt tagOk roomOk nodeLengthOk lengthOk turnsAt turnsOk hasPair scheduleOk total owns any lastOf ownsNext owning startsOk accessOk blockOk nodeValueOk valueOk below childrenOk entryOk fieldOf said endOf scanFrom scan wholeOf judged
 four = refl
 
 -- a sum of 256 is accepted, one of 257 gives 5, and so does an analysed core without a pair; each ends after its bus
@@ -85,13 +109,13 @@ abbrev pair : ℕ → ℕ → List ℕ
 pair core last = 9 ∷ 0 ∷ 7 ∷ core ∷ 0 ∷ 128 ∷ 15 ∷ 127 ∷ 0 ∷ last ∷ []
 
 sum-256 : numbered (pair 15 1) ≡ refused 7 "unfinished" 10
-unfolding wordAt tagOk nodeLengthOk lengthOk turnsAt turnsOk hasPair scheduleOk total nodeValueOk valueOk childrenOk fieldOf scanFrom scan wholeOf judged
+unfolding wordAt tagOk roomOk nodeLengthOk lengthOk turnsAt turnsOk hasPair scheduleOk total nodeValueOk valueOk childrenOk entryOk fieldOf endOf scanFrom scan wholeOf judged
 sum-256 = refl
 
 sum-257 : numbered (pair 15 2) ≡ refused 5 "value" 0
-unfolding wordAt tagOk nodeLengthOk lengthOk turnsAt turnsOk hasPair scheduleOk total nodeValueOk valueOk fieldOf scanFrom scan wholeOf judged
+unfolding wordAt tagOk roomOk nodeLengthOk lengthOk turnsAt turnsOk hasPair scheduleOk total nodeValueOk valueOk fieldOf endOf scanFrom scan wholeOf judged
 sum-257 = refl
 
 no-pair : numbered (pair 1 1) ≡ refused 5 "value" 0
-unfolding wordAt tagOk nodeLengthOk lengthOk turnsAt turnsOk hasPair scheduleOk total nodeValueOk valueOk fieldOf scanFrom scan wholeOf judged
+unfolding wordAt tagOk roomOk nodeLengthOk lengthOk turnsAt turnsOk hasPair scheduleOk total nodeValueOk valueOk fieldOf endOf scanFrom scan wholeOf judged
 no-pair = refl

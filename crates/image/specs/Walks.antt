@@ -23,7 +23,7 @@ pub record Sound (s : List ℕ) (t : Outline) (places : List ℕ) : Type 0 where
   pub starts-some : 1 ≤ t .starts
   pub starts-few : t .starts ≤ 256
   pub starts : Starts s (bodyAt s 1) (t .starts) (said s .period)
-  pub some : 1 ≤ t .nodes
+  pub entry : t .entry < t .nodes
   pub few : t .nodes ≤ 256
   pub placed : (k : ℕ) → k < t .nodes → getD places k 0 ≡ fieldAt s (k + 2)
   pub inside : (k : ℕ) → k < t .nodes → fieldAt s (k + 2) ≤ length s

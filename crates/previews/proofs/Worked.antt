@@ -10,8 +10,8 @@ use Rattle.runs.specs.Carried.{carried}
 use Rattle.runs.specs.Figures.{noTime, startTimes, startSet, longer, later, longestOf, atOffsets, cost, entryOf, held, sum}
 use Rattle.bytes.specs.Bytes.{wordAt, words, bytes}
 use Rattle.schedule.specs.Said.{busOk, said}
-use Rattle.rows.specs.Tests.{tagOk, nodeLengthOk, lengthOk, startsOk, plainOk, accessOk, blockOk, loopOk, nodeValueOk, valueOk, below, childrenOk}
-use Rattle.image.specs.Judged.{fieldOf, scanFrom, scan, wholeOf, judged}
+use Rattle.rows.specs.Tests.{tagOk, roomOk, nodeLengthOk, lengthOk, startsOk, plainOk, accessOk, blockOk, loopOk, nodeValueOk, valueOk, below, childrenOk, entryOk}
+use Rattle.image.specs.Judged.{fieldOf, endOf, scanFrom, scan, wholeOf, judged}
 use Rattle.rows.specs.Fields.{fieldAt}
 use Rattle.nodes.specs.Nodes.{nodeFrom, meant, nodeAt}
 use Rattle.answers.specs.Answers.{given, refused}
@@ -28,7 +28,7 @@ record Worked : Type 0 where
   kept : previewTable (arms 3 7) 1 8 7 (replicate 9 0) ≡ replicate 9 0
 
 worked : Worked
-unfolding wordAt words bytes tagOk nodeLengthOk lengthOk busOk said startsOk plainOk accessOk blockOk loopOk nodeValueOk valueOk below childrenOk fieldOf fieldAt nodeFrom meant nodeAt trees treeBy treeTo tree depth visits power linesTo scanFrom scan wholeOf judged equalSlots equation7 withLines carried startTimes startSet longer later longestOf atOffsets cost entryOf held sum withDurations found
+unfolding wordAt words bytes tagOk roomOk nodeLengthOk lengthOk busOk said startsOk plainOk accessOk blockOk loopOk nodeValueOk valueOk below childrenOk entryOk fieldOf fieldAt nodeFrom meant nodeAt trees treeBy treeTo tree depth visits power linesTo endOf scanFrom scan wholeOf judged equalSlots equation7 withLines carried startTimes startSet longer later longestOf atOffsets cost entryOf held sum withDurations found
 worked = record {
   preview = refl;
   table = refl;

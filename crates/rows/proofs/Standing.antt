@@ -1,6 +1,6 @@
 -- Where the fields of an image stand, one behind the other; only the last of those that are good may have closed it.
-use mathlib.Core.Path.{_≡_, refl, sym}
-use mathlib.Core.Logic.{⊎-elim}
+use mathlib.Core.Path.{_≡_, refl}
+use mathlib.Core.Bool.{false}
 use mathlib.Core.List.{List}
 use Prim.Native.Nat.{ℕ, zero, suc, _+_, _≤_}
 use native.Mathlib.Numerals.{add-one}
@@ -8,9 +8,8 @@ use native.Mathlib.Omega.{arith}
 use lib.ListN.{length}
 use borrow.Author.Count.{below-more}
 use borrow.Author.Tests.{eqb-false}
-use Rattle.schedule.proofs.Numbers.{eq-or-ne}
 use Rattle.rows.specs.Fields.{fieldAt, tagAt, lengthAt, closedAt, GoodField, Passed, Unclosed}
-use Rattle.rows.proofs.Kept.{good-tag, good-room, good-body, node-room, entry-tag, later-tag, first-open}
+use Rattle.rows.proofs.Kept.{good-tag, good-room, good-body, node-room, later-tag, first-open}
 
 module _ (s : List ℕ) where
   pub next-at : (k : ℕ) → fieldAt s (suc k) ≡ fieldAt s k + 3 + lengthAt s k
@@ -56,6 +55,10 @@ module _ (s : List ℕ) where
   pub unclosed-few : (n : ℕ) → Unclosed s n → n ≤ 258
   unclosed-few zero p = omega arith
   unclosed-few (suc n) p = let (g, ne) = p n (omega arith) in omega (arith, node-room n (tagAt s n) ne (good-room s n g))
+
+  pub open-few : (n : ℕ) → Passed s n → closedAt s n ≡ false → n ≤ 258
+  open-few zero p e = omega arith
+  open-few (suc n) p e = unclosed-few (suc n) (unclosed-all n p (eqb-false (tagAt s n) 8 e))
 
   pub few : (n : ℕ) → Passed s n → n ≤ 259
   few zero p = omega arith

@@ -19,7 +19,7 @@ whole-requires : tie.Need-whole-requires
 whole-requires c κs =
     let f = c .before .before .before .before .before .fields .ensures in
     let e = c .before .before .end2 .given .1 in
-    (whole-ends _ _ (sym (f .is) ∙ e), f .placed _ e)
+    (whole-ends _ _ _ (sym (f .is) ∙ e), f .placed _ _ e .each)
 
 returns : tie.Need-returns
 returns c =
@@ -30,7 +30,7 @@ returns-2 : tie.Need-returns-2
 returns-2 c =
     let f = c .before .before .before .before .before .before .fields .ensures in
     let e = c .before .before .before .end2 .given .1 in
-    promise-whole _ _ _ _ (sym (f .is) ∙ e) (f .placed _ e) (c .whole .ensures)
+    promise-whole _ _ _ _ _ (sym (f .is) ∙ e) (f .placed _ _ e) (c .whole .ensures)
 
 pub judge-spec : {M : Type 1} → statement M
 judge-spec =

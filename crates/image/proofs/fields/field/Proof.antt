@@ -8,7 +8,7 @@ use mathlib.Core.Path.{sym, _∙_}
 use Prim.Native.Nat.{_-_}
 use native.Mathlib.Omega.{arith}
 use lib.ListN.{length}
-use borrow.Author.Tests.{le-leb, lt-leb, lt-ltb, le-ltb, not-true, not-false}
+use borrow.Author.Tests.{lt-ltb, le-ltb, not-true, not-false}
 
 sub-left : tie.Need-sub-left
 sub-left c = search needs
@@ -34,14 +34,17 @@ returns-2 c =
       sym (c .before .tag-ok .ensures) ∙ not-true _ (c .if2 .taken),
     ))
 
+room-ok-requires : tie.Need-room-ok-requires
+room-ok-requires c κs = search needs
+
 returns-3 : tie.Need-returns-3
 unfolding fieldOf
 returns-3 c =
-    rw (sym (c .before .before .before .byte .ensures .0))
+    rw (sym (c .before .before .before .before .byte .ensures .0))
     (simp (
-      le-ltb _ _ (c .before .before .before .before .if1 .left),
-      sym (c .before .before .tag-ok .ensures) ∙ not-false _ (c .before .if2 .left),
-      le-leb 258 (c .before .before .before .before .before .before .args .index) (omega (arith, c .if3 .taken)),
+      le-ltb _ _ (c .before .before .before .before .before .if1 .left),
+      sym (c .before .before .before .tag-ok .ensures) ∙ not-false _ (c .before .before .if2 .left),
+      sym (c .before .room-ok .ensures) ∙ not-true _ (c .if3 .taken),
     ))
 
 add-word : tie.Need-add-word
@@ -56,22 +59,22 @@ length-ok-requires c κs = search needs
 returns-4 : tie.Need-returns-4
 unfolding fieldOf
 returns-4 c =
-    rw (sym (c .before .before .before .before .before .before .byte .ensures .0), sym (c .before .before .word .ensures .0))
+    rw (sym (c .before .before .before .before .before .before .before .byte .ensures .0), sym (c .before .before .word .ensures .0))
     (simp (
-      le-ltb _ _ (c .before .before .before .before .before .before .before .if1 .left),
-      sym (c .before .before .before .before .before .tag-ok .ensures) ∙ not-false _ (c .before .before .before .before .if2 .left),
-      lt-leb 258 _ (c .before .before .before .if3 .left),
+      le-ltb _ _ (c .before .before .before .before .before .before .before .before .if1 .left),
+      sym (c .before .before .before .before .before .before .tag-ok .ensures) ∙ not-false _ (c .before .before .before .before .before .if2 .left),
+      sym (c .before .before .before .before .room-ok .ensures) ∙ not-false _ (c .before .before .before .if3 .left),
       sym (c .before .length-ok .ensures) ∙ not-true _ (c .if4 .taken),
     ))
 
 returns-5 : tie.Need-returns-5
 unfolding fieldOf
 returns-5 c =
-    rw (sym (c .before .before .before .before .before .before .before .byte .ensures .0), sym (c .before .before .before .word .ensures .0))
+    rw (sym (c .before .before .before .before .before .before .before .before .byte .ensures .0), sym (c .before .before .before .word .ensures .0))
     (simp (
-      le-ltb _ _ (c .before .before .before .before .before .before .before .before .if1 .left),
-      sym (c .before .before .before .before .before .before .tag-ok .ensures) ∙ not-false _ (c .before .before .before .before .before .if2 .left),
-      lt-leb 258 _ (c .before .before .before .before .if3 .left),
+      le-ltb _ _ (c .before .before .before .before .before .before .before .before .before .if1 .left),
+      sym (c .before .before .before .before .before .before .before .tag-ok .ensures) ∙ not-false _ (c .before .before .before .before .before .before .if2 .left),
+      sym (c .before .before .before .before .before .room-ok .ensures) ∙ not-false _ (c .before .before .before .before .if3 .left),
       sym (c .before .before .length-ok .ensures) ∙ not-false _ (c .before .if4 .left),
       lt-ltb _ _ (c .if5 .taken),
     ))
@@ -81,9 +84,9 @@ add-value-ok c = search needs
 
 value-ok-requires : tie.Need-value-ok-requires
 value-ok-requires c κs =
-    let start = c .before .before .before .before .before .before .before .before .before .before in
-    let ok = sym (c .before .before .before .before .before .before .tag-ok .ensures) ∙ not-false _ (c .before .before .before .before .before .if2 .left) in
-    (search needs, search needs, λ n m. start .pre .1 (later-field _ _ ok n m))
+    let start = c .before .before .before .before .before .before .before .before .before .before .before in
+    let ok = sym (c .before .before .before .before .before .before .before .tag-ok .ensures) ∙ not-false _ (c .before .before .before .before .before .before .if2 .left) in
+    (search needs, search needs, λ n m. start .pre .1 (later-field _ _ _ ok n m))
 
 add-children-ok : tie.Need-add-children-ok
 add-children-ok c = search needs
@@ -91,57 +94,85 @@ add-children-ok c = search needs
 children-ok-requires : tie.Need-children-ok-requires
 children-ok-requires c κs = search needs
 
+add-entry-ok : tie.Need-add-entry-ok
+add-entry-ok c = search needs
+
+entry-ok-requires : tie.Need-entry-ok-requires
+entry-ok-requires c κs = search needs
+
 returns-6 : tie.Need-returns-6
 unfolding fieldOf
 returns-6 c =
-    rw (sym (c .before .before .before .before .before .before .before .before .before .before .byte .ensures .0), sym (c .before .before .before .before .before .before .word .ensures .0))
+    rw (sym (c .before .before .before .before .before .before .before .before .before .before .before .before .byte .ensures .0), sym (c .before .before .before .before .before .before .before .word .ensures .0))
     (simp (
-      le-ltb _ _ (c .before .before .before .before .before .before .before .before .before .before .before .if1 .left),
-      sym (c .before .before .before .before .before .before .before .before .before .tag-ok .ensures) ∙ not-false _ (c .before .before .before .before .before .before .before .before .if2 .left),
-      lt-leb 258 _ (c .before .before .before .before .before .before .before .if3 .left),
-      sym (c .before .before .before .before .before .length-ok .ensures) ∙ not-false _ (c .before .before .before .before .if4 .left),
-      le-ltb _ _ (c .before .before .before .if5 .left),
-      sym (c .before .before .value-ok .ensures),
-      sym (c .before .children-ok .ensures),
+      le-ltb _ _ (c .before .before .before .before .before .before .before .before .before .before .before .before .before .if1 .left),
+      sym (c .before .before .before .before .before .before .before .before .before .before .before .tag-ok .ensures) ∙ not-false _ (c .before .before .before .before .before .before .before .before .before .before .if2 .left),
+      sym (c .before .before .before .before .before .before .before .before .before .room-ok .ensures) ∙ not-false _ (c .before .before .before .before .before .before .before .before .if3 .left),
+      sym (c .before .before .before .before .before .before .length-ok .ensures) ∙ not-false _ (c .before .before .before .before .before .if4 .left),
+      le-ltb _ _ (c .before .before .before .before .if5 .left),
+      sym (c .before .before .before .value-ok .ensures),
+      sym (c .before .before .children-ok .ensures),
+      sym (c .before .entry-ok .ensures),
       c .if6 .taken,
     ))
 
 returns-7 : tie.Need-returns-7
 unfolding fieldOf
 returns-7 c =
-    rw (sym (c .before .before .before .before .before .before .before .before .before .before .before .byte .ensures .0), sym (c .before .before .before .before .before .before .before .word .ensures .0))
+    rw (sym (c .before .before .before .before .before .before .before .before .before .before .before .before .before .byte .ensures .0), sym (c .before .before .before .before .before .before .before .before .word .ensures .0))
     (simp (
-      le-ltb _ _ (c .before .before .before .before .before .before .before .before .before .before .before .before .if1 .left),
-      sym (c .before .before .before .before .before .before .before .before .before .before .tag-ok .ensures) ∙ not-false _ (c .before .before .before .before .before .before .before .before .before .if2 .left),
-      lt-leb 258 _ (c .before .before .before .before .before .before .before .before .if3 .left),
-      sym (c .before .before .before .before .before .before .length-ok .ensures) ∙ not-false _ (c .before .before .before .before .before .if4 .left),
-      le-ltb _ _ (c .before .before .before .before .if5 .left),
-      sym (c .before .before .before .value-ok .ensures),
-      sym (c .before .before .children-ok .ensures),
+      le-ltb _ _ (c .before .before .before .before .before .before .before .before .before .before .before .before .before .before .if1 .left),
+      sym (c .before .before .before .before .before .before .before .before .before .before .before .before .tag-ok .ensures) ∙ not-false _ (c .before .before .before .before .before .before .before .before .before .before .before .if2 .left),
+      sym (c .before .before .before .before .before .before .before .before .before .before .room-ok .ensures) ∙ not-false _ (c .before .before .before .before .before .before .before .before .before .if3 .left),
+      sym (c .before .before .before .before .before .before .before .length-ok .ensures) ∙ not-false _ (c .before .before .before .before .before .before .if4 .left),
+      le-ltb _ _ (c .before .before .before .before .before .if5 .left),
+      sym (c .before .before .before .before .value-ok .ensures),
+      sym (c .before .before .before .children-ok .ensures),
+      sym (c .before .before .entry-ok .ensures),
       c .before .if6 .left,
       c .if7 .taken,
     ))
 
-add-t9 : tie.Need-add-t9
-add-t9 c = search needs
-
-add-t19 : tie.Need-add-t19
-add-t19 c = search needs
-
 returns-8 : tie.Need-returns-8
 unfolding fieldOf
 returns-8 c =
-    rw (sym (c .before .before .before .before .before .before .before .before .before .before .before .byte .ensures .0), sym (c .before .before .before .before .before .before .before .word .ensures .0))
+    rw (sym (c .before .before .before .before .before .before .before .before .before .before .before .before .before .before .byte .ensures .0), sym (c .before .before .before .before .before .before .before .before .before .word .ensures .0))
     (simp (
-      le-ltb _ _ (c .before .before .before .before .before .before .before .before .before .before .before .before .if1 .left),
-      sym (c .before .before .before .before .before .before .before .before .before .before .tag-ok .ensures) ∙ not-false _ (c .before .before .before .before .before .before .before .before .before .if2 .left),
-      lt-leb 258 _ (c .before .before .before .before .before .before .before .before .if3 .left),
-      sym (c .before .before .before .before .before .before .length-ok .ensures) ∙ not-false _ (c .before .before .before .before .before .if4 .left),
-      le-ltb _ _ (c .before .before .before .before .if5 .left),
-      sym (c .before .before .before .value-ok .ensures),
-      sym (c .before .before .children-ok .ensures),
-      c .before .if6 .left,
-      c .if7 .left,
+      le-ltb _ _ (c .before .before .before .before .before .before .before .before .before .before .before .before .before .before .before .if1 .left),
+      sym (c .before .before .before .before .before .before .before .before .before .before .before .before .before .tag-ok .ensures) ∙ not-false _ (c .before .before .before .before .before .before .before .before .before .before .before .before .if2 .left),
+      sym (c .before .before .before .before .before .before .before .before .before .before .before .room-ok .ensures) ∙ not-false _ (c .before .before .before .before .before .before .before .before .before .before .if3 .left),
+      sym (c .before .before .before .before .before .before .before .before .length-ok .ensures) ∙ not-false _ (c .before .before .before .before .before .before .before .if4 .left),
+      le-ltb _ _ (c .before .before .before .before .before .before .if5 .left),
+      sym (c .before .before .before .before .before .value-ok .ensures),
+      sym (c .before .before .before .before .children-ok .ensures),
+      sym (c .before .before .before .entry-ok .ensures),
+      c .before .before .if6 .left,
+      c .before .if7 .left,
+      c .if8 .taken,
+    ))
+
+add-t11 : tie.Need-add-t11
+add-t11 c = search needs
+
+add-t22 : tie.Need-add-t22
+add-t22 c = search needs
+
+returns-9 : tie.Need-returns-9
+unfolding fieldOf
+returns-9 c =
+    rw (sym (c .before .before .before .before .before .before .before .before .before .before .before .before .before .before .byte .ensures .0), sym (c .before .before .before .before .before .before .before .before .before .word .ensures .0))
+    (simp (
+      le-ltb _ _ (c .before .before .before .before .before .before .before .before .before .before .before .before .before .before .before .if1 .left),
+      sym (c .before .before .before .before .before .before .before .before .before .before .before .before .before .tag-ok .ensures) ∙ not-false _ (c .before .before .before .before .before .before .before .before .before .before .before .before .if2 .left),
+      sym (c .before .before .before .before .before .before .before .before .before .before .before .room-ok .ensures) ∙ not-false _ (c .before .before .before .before .before .before .before .before .before .before .if3 .left),
+      sym (c .before .before .before .before .before .before .before .before .length-ok .ensures) ∙ not-false _ (c .before .before .before .before .before .before .before .if4 .left),
+      le-ltb _ _ (c .before .before .before .before .before .before .if5 .left),
+      sym (c .before .before .before .before .before .value-ok .ensures),
+      sym (c .before .before .before .before .children-ok .ensures),
+      sym (c .before .before .before .entry-ok .ensures),
+      c .before .before .if6 .left,
+      c .before .if7 .left,
+      c .if8 .left,
     ))
 
 pub field-spec : {M : Type 1} → statement M
@@ -153,6 +184,7 @@ field-spec =
     byte-requires
     tag-ok-requires
     returns-2
+    room-ok-requires
     returns-3
     add-word
     word-requires
@@ -163,8 +195,11 @@ field-spec =
     value-ok-requires
     add-children-ok
     children-ok-requires
+    add-entry-ok
+    entry-ok-requires
     returns-6
     returns-7
-    add-t9
-    add-t19
-    returns-8)
+    returns-8
+    add-t11
+    add-t22
+    returns-9)
