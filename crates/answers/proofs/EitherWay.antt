@@ -26,7 +26,7 @@ use Rattle.image.proofs.SameRest.{long, judged-moved, nodes-same, starts-same}
 use Rattle.image.proofs.EitherWay.{instead, same-said}
 use Rattle.rows.proofs.Kept.{slots-row}
 use Rattle.image.proofs.Reasons.{when-accepted}
-use Rattle.image.proofs.Sounds.{ranged-kept, accepted}
+use Rattle.image.proofs.Sounds.{stand, ranged-kept, accepted}
 use Rattle.answers.specs.Answers.{given, refused, afterJudging, answer, tableFor, tableAfter}
 use Rattle.answers.specs.EitherWay.{answerMoved, EitherWay, EqualAnswers}
 use Rattle.answers.proofs.Promises.{figures-given}
@@ -100,7 +100,7 @@ module _ (s table : List ℕ) (k : Outline) (ok : judged s ≡ Accepted k) (tag 
 
   same-image : slotsField (slotsAt s) ++ drop 6 s ≡ s
   same-image =
-      let (six, three) = slots-row s (when-accepted s k ok .complete .passed 0 (omega arith)) tag in
+      let (six, three) = slots-row s (stand s k (when-accepted s k ok) 0 (omega arith) .0) tag in
       split-off s six tag three
 
   pub equal-answers : EqualAnswers s k table

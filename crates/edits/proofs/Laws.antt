@@ -10,6 +10,7 @@ use Rattle.bytes.specs.Bytes.{byteAt, wordAt}
 use Rattle.rows.specs.Tests.{plainOk, nodeValueOk, valueOk}
 use Rattle.nodes.specs.Nodes.{nodeAt}
 use Rattle.rows.proofs.Rules.{durations-kept, tested}
+use Rattle.image.proofs.Sounds.{stand}
 use Rattle.edits.specs.Edits.{done, placeOf, imageWith, change, imageAfter}
 use Rattle.edits.specs.Promise.{Editable, Restores, Leaves}
 use Rattle.edits.proofs.Plain.{node-was, tag-of}
@@ -43,7 +44,7 @@ module _ (s : List ℕ) (node lo hi : ℕ) (d : Editable s node lo hi) (small : 
 
     old-range : plainOk l h ≡ true
     unfolding valueOk nodeValueOk
-    old-range = rw (low, high) (rw tag at (tested s (node + 2) (d .accepting .complete .passed (node + 2) (omega (arith, d .block .exists))) .value))
+    old-range = rw (low, high) (rw tag at (tested s (node + 2) (stand s (d .outline) (d .accepting) (node + 2) (omega (arith, d .block .exists)) .0) .value))
 
     undoable : Editable (imageWith s node lo hi) node l h
     undoable = record {
@@ -69,7 +70,7 @@ module _ (s : List ℕ) (node lo hi : ℕ) (d : Editable s node lo hi) (small : 
     says = node-same s node lo hi d;
     others = λ n l other. node-other s node lo hi d n (omega (arith, l)) (λ q. other (omega (arith, q)));
     starts = starts-same s node lo hi d;
-    deep = λ n l. sym (weight-same s node lo hi d n (omega (arith, l, d .accepting .last)) .deep);
-    visited = λ n l. sym (weight-same s node lo hi d n (omega (arith, l, d .accepting .last)) .long);
+    deep = λ n l. sym (weight-same s node lo hi d n l .deep);
+    visited = λ n l. sym (weight-same s node lo hi d n l .long);
     back = undone;
   }

@@ -1,5 +1,5 @@
 -- A possible edit leaves every field where it stands, and every other node as it was; the image stays accepted, with the same task.
-use mathlib.Core.Path.{_≡_, sym, _∙_, ap, subst}
+use mathlib.Core.Path.{_≡_, refl, sym, _∙_, ap, subst}
 use mathlib.Core.Bool.{true}
 use mathlib.Core.List.{List}
 use lib.ListN.{length}
@@ -14,19 +14,20 @@ use Rattle.bytes.specs.Bytes.{byteAt, wordAt}
 use Rattle.bytes.proofs.Agreeing.{Agree, agree-part, agree-first, agree-here, agree-word, agree-bytes}
 use Rattle.schedule.specs.Said.{said}
 use Rattle.schedule.proofs.Writings.{agree-said}
-use Rattle.rows.specs.Tests.{nodeLengthOk, lengthOk, nodeValueOk, valueOk, childrenOk}
-use Rattle.rows.specs.Fields.{fieldAt, tagAt, lengthAt, bodyAt, GoodField}
+use Rattle.rows.specs.Tests.{nodeLengthOk, lengthOk, nodeValueOk, valueOk, childrenOk, entryOk}
+use Rattle.rows.specs.Fields.{fieldAt, tagAt, lengthAt, bodyAt, closedAt, GoodField}
 use Rattle.nodes.specs.Nodes.{nodeFrom, meant, nodeAt, treeAt}
 use Rattle.image.specs.Tasks.{startsOf}
-use Rattle.image.specs.Conditions.{Accepting}
+use Rattle.image.specs.Conditions.{Complete, Ending, last, named, Accepting}
 use Rattle.image.specs.Judged.{judged}
 use Rattle.image.specs.declared.Verdict.the-variants.{Accepted}
-use Rattle.rows.proofs.Standing.{next-at, first-at, fewer}
+use Rattle.rows.proofs.Standing.{next-at, first-at, unclosed-fewer}
 use Rattle.rows.proofs.Kept.{first-end}
 use Rattle.rows.proofs.Rules.{kept-durations, tested, good as made}
 use Rattle.nodes.proofs.Levels.{falls}
-use Rattle.rows.proofs.Reading.{covers-row, agree-value, agree-children}
+use Rattle.rows.proofs.Reading.{covers-row, agree-value, agree-children, agree-entry}
 use Rattle.nodes.proofs.Reading.{agree-node}
+use Rattle.image.proofs.Sounds.{stand, entry-below}
 use Rattle.image.proofs.Reasons.{accepted-when}
 use Rattle.edits.specs.Edits.{placeOf, imageWith}
 use Rattle.edits.specs.Promise.{Editable}
@@ -52,7 +53,7 @@ module _ (s : List ℕ) (node lo hi : ℕ) (d : Editable s node lo hi) where
   Same place n = Agree s after place place n
 
   good : (j : ℕ) → j < d .outline .nodes + 2 → GoodField s j
-  good j l = d .accepting .complete .passed j l
+  good j l = stand s (d .outline) (d .accepting) j l .0
 
   here : GoodField s (node + 2)
   here = good (node + 2) (omega (arith, d .block .exists))
@@ -120,30 +121,37 @@ module _ (s : List ℕ) (node lo hi : ℕ) (d : Editable s node lo hi) where
   pub starts-same : startsOf after ≡ startsOf s
   starts-same = rw (place-same 1, length-same 1) (agree-bytes s after (bodyAt s 1) (bodyAt s 1) (lengthAt s 1) (body-before 1 (omega arith)))
 
-  -- a field whose numbers keep their row's rules is good
-  still-good : (j : ℕ) → j < d .outline .nodes + 2 → valueOk after (tagAt s j) (bodyAt s j) (lengthAt s j) ≡ true
-      → childrenOk after (tagAt s j) (bodyAt s j) (lengthAt s j) j ≡ true → GoodField after j
-  still-good j l v c =
-      let g = tested s j (good j l) in
+  -- what each field before it has, whether it has closed the image, stays
+  closed-same : (j : ℕ) → closedAt after j ≡ closedAt s j
+  closed-same zero = refl
+  closed-same (suc j) = rw (place-same j, tag-same j)
+
+  -- a good field whose numbers still keep their row's rules is good
+  still-good : (j : ℕ) → GoodField s j → valueOk after (tagAt s j) (bodyAt s j) (lengthAt s j) ≡ true
+      → childrenOk after (tagAt s j) (bodyAt s j) (lengthAt s j) j ≡ true → entryOk after (tagAt s j) (bodyAt s j) j ≡ true → GoodField after j
+  still-good j x v c n =
+      let g = tested s j x in
       made after j
       (record {
         head = rw (place-same j, long) (g .head);
-        tag = rw (place-same j, tag-same j) (g .tag);
-        room = g .room;
+        tag = rw (closed-same j, place-same j, tag-same j) (g .tag);
+        room = rw (place-same j, tag-same j) (g .room);
         len = rw (place-same j, tag-same j, length-same j) (g .len);
         body = rw (place-same j, length-same j, long) (g .body);
         value = rw (place-same j, tag-same j, length-same j) v;
         children = rw (place-same j, tag-same j, length-same j) c;
+        entry = rw (place-same j, tag-same j) n;
       })
 
   -- such as one with the same body
-  body-good : (j : ℕ) → j < d .outline .nodes + 2 → Same (bodyAt s j) (lengthAt s j) → GoodField after j
-  body-good j l h =
-      let g = tested s j (good j l) in
+  body-good : (j : ℕ) → GoodField s j → Same (bodyAt s j) (lengthAt s j) → GoodField after j
+  body-good j x h =
+      let g = tested s j x in
       let c = covers-row (tagAt s j) (lengthAt s j) (g .len) in
-      still-good j l
+      still-good j x
       (agree-value s after (tagAt s j) (bodyAt s j) (bodyAt s j) (lengthAt s j) (lengthAt s j) c h (ap (λ (b : Bus). b .period) bus-same) (ap (λ (b : Bus). b .most) bus-same) ∙ g .value)
       (agree-children s after (tagAt s j) (bodyAt s j) (bodyAt s j) (lengthAt s j) (lengthAt s j) c h j ∙ g .children)
+      (agree-entry s after (tagAt s j) (bodyAt s j) (bodyAt s j) (lengthAt s j) (lengthAt s j) c h j ∙ g .entry)
 
   -- and the block's own
   lowest : wordAt after (placeOf s node + 3) ≡ lo
@@ -153,17 +161,27 @@ module _ (s : List ℕ) (node lo hi : ℕ) (d : Editable s node lo hi) where
   highest = written-highest s (placeOf s node + 3) lo hi inside
 
   own-good : GoodField after (node + 2)
-  unfolding valueOk nodeValueOk childrenOk
-  own-good =
-      still-good (node + 2) (omega (arith, d .block .exists)) (rw (tag, lowest, highest) (kept-durations lo hi (d .durations))) (rw tag)
+  unfolding valueOk nodeValueOk childrenOk entryOk
+  own-good = still-good (node + 2) here (rw (tag, lowest, highest) (kept-durations lo hi (d .durations))) (rw tag) (rw tag)
 
-  all-good : (j : ℕ) → j < d .outline .nodes + 2 → GoodField after j
-  all-good j l =
+  all-good : (j : ℕ) → GoodField s j → GoodField after j
+  all-good j x =
       split (node + 2) j
       (λ p. split j (node + 2)
       (λ m. let e : node + 2 ≡ j = omega arith in subst (GoodField after) e own-good)
-      (λ m. body-good j l (body-behind j m)))
-      (λ p. body-good j l (body-before j p))
+      (λ m. body-good j x (body-behind j m)))
+      (λ p. body-good j x (body-before j p))
+
+  -- the same fields fill the image, and the same node is the entry
+  complete-same : (n : ℕ) → Complete s n → Complete after n
+  complete-same n c = record { passed = λ j l. all-good j (c .passed j l); ends = place-same n ∙ c .ends ∙ sym long }
+
+  ending-same : (n entry : ℕ) → node < n → Ending s n entry → Ending after n entry
+  ending-same n entry low (last c ne e) = last (complete-same (n + 2) c) (λ t. ne (rw (place-same (n + 1), tag-same (n + 1)) at t)) e
+  ending-same n entry low (named c t e) =
+      let b = bodyAt s (n + 2) in
+      named (complete-same (n + 3) c) (rw (place-same (n + 2), tag-same (n + 2)) t)
+      (e ∙ rw (place-same (n + 2)) (sym (agree-word s after (fieldAt s (n + 2)) (fieldAt s (n + 2)) 5 3 (behind (n + 2) 5 (omega arith)) (omega arith))))
 
   -- every other node says what it said
   pub node-other : (n : ℕ) → n < d .outline .nodes → (n ≡ node → ⊥) → nodeAt after n ≡ nodeAt s n
@@ -186,7 +204,7 @@ module _ (s : List ℕ) (node lo hi : ℕ) (d : Editable s node lo hi) where
   node-same = rw (place-same (node + 2), tag-same (node + 2), tag) (rw (lowest, highest))
 
   -- so depth, visits and lines stay
-  alike : (n : ℕ) → n < suc (d .outline .entry) → Alike (nodeAt s n) (nodeAt after n)
+  alike : (n : ℕ) → n < d .outline .nodes → Alike (nodeAt s n) (nodeAt after n)
   alike n l =
       split node n
       (λ p. split n node
@@ -194,28 +212,27 @@ module _ (s : List ℕ) (node lo hi : ℕ) (d : Editable s node lo hi) where
       (λ m. other n l (λ q. omega arith)))
       (λ p. other n l (λ q. omega arith))
     where
-      other : (n : ℕ) → n < suc (d .outline .entry) → (n ≡ node → ⊥) → Alike (nodeAt s n) (nodeAt after n)
-      other n l ne = rw (node-other n (omega (arith, d .accepting .last)) ne) (same (nodeAt s n))
+      other : (n : ℕ) → n < d .outline .nodes → (n ≡ node → ⊥) → Alike (nodeAt s n) (nodeAt after n)
+      other n l ne = rw (node-other n l ne) (same (nodeAt s n))
 
-  pub weight-same : (n : ℕ) → n < suc (d .outline .entry) → Equally (treeAt s n) (treeAt after n)
+  pub weight-same : (n : ℕ) → n < d .outline .nodes → Equally (treeAt s n) (treeAt after n)
   weight-same n l =
-      equally (nodeAt s) (nodeAt after) (suc (d .outline .entry))
-      (falls s (d .outline .entry) (fewer s (d .outline .entry + 3) (d .outline .nodes + 2) (omega (arith, d .accepting .last)) (d .accepting .complete .passed)))
+      equally (nodeAt s) (nodeAt after) (d .outline .nodes)
+      (λ k m. falls s k (unclosed-fewer s (k + 3) (d .outline .nodes + 2) (omega arith) (stand s (d .outline) (d .accepting))) k (omega arith))
       alike n l
 
   -- and the image stays accepted
   pub still-accepting : Accepting after (d .outline)
   still-accepting =
       let a = d .accepting in
-      let w = weight-same (d .outline .entry) (omega arith) in
+      let w = weight-same (d .outline .entry) (entry-below s (d .outline) a) in
       record {
-        complete = record { passed = all-good; ends = place-same (d .outline .nodes + 2) ∙ a .complete .ends ∙ sym long };
-        last = a .last;
+        ending = ending-same (d .outline .nodes) (d .outline .entry) (d .block .exists) (a .ending);
         shallow = rw (← (w .deep)) (a .shallow);
         short = rw (← (w .long)) (a .short);
         period = rw bus-same (a .period);
         starts = a .starts ∙ sym starts-word;
-        lines = a .lines ∙ lines-same (nodeAt s) (nodeAt after) (d .outline .nodes) (λ i l. alike i (omega (arith, a .last)));
+        lines = a .lines ∙ lines-same (nodeAt s) (nodeAt after) (d .outline .nodes) alike;
         sets = a .sets;
         narrow = a .narrow;
       }

@@ -11,7 +11,7 @@ use Rattle.runs.proofs.Cases.{split}
 use Rattle.refusals.specs.Refusals.{numberOf}
 use Rattle.image.specs.Tasks.{taskOf}
 use Rattle.refusals.specs.declared.Refusal.{Refusal}
-use Rattle.refusals.specs.declared.Refusal.the-variants.{Cut, Tag, Full, Length, Value, Forward, Unfinished, Deep, Long, Table, Register, Busy, Forbidden, Lines, Block}
+use Rattle.refusals.specs.declared.Refusal.the-variants.{Cut, Tag, Full, Length, Value, Forward, Unfinished, Deep, Long, Table, Entry, Register, Busy, Forbidden, Lines, Block}
 use Rattle.answers.specs.declared.Totals.{Totals}
 use Rattle.answers.specs.declared.Answer.{Answer}
 use Rattle.answers.specs.declared.Answer.the-variants.{Given, Refused as NotGiven}
@@ -39,6 +39,7 @@ is-table Unfinished e = absurd (omega arith)
 is-table Deep e = absurd (omega arith)
 is-table Long e = absurd (omega arith)
 is-table Table e = refl
+is-table Entry e = absurd (omega arith)
 is-table Register e = absurd (omega arith)
 is-table Busy e = absurd (omega arith)
 is-table Forbidden e = absurd (omega arith)

@@ -20,7 +20,7 @@ use answers::Answer;
 use edits::Found;
 
 // No accepted image has more bytes (`longestImage`).
-const LONGEST: usize = 9260;
+const LONGEST: usize = 9265;
 
 // The first bytes of the copy take those of the image.
 fn fill(copy: &mut [u8], image: &[u8])
