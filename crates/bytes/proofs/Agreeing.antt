@@ -1,7 +1,7 @@
 -- Two lists of bytes that agree on a part, wherever it stands in each: the same numbers stand there.
 use mathlib.Core.Path.{_≡_, refl, sym, _∙_, ap, ap₂}
 use mathlib.Core.List.{List, [], _∷_, _++_}
-use native.Mathlib.Nat.{zero-add, suc-add}
+use native.Mathlib.Nat.{zero-add, suc-add, not-suc-le-zero}
 use native.Mathlib.Omega.{arith}
 use Prim.Native.Nat.{ℕ, zero, suc, _+_, _*_, _≤_, _<_}
 use lib.ListN.{length, drop}
@@ -48,6 +48,12 @@ module _ (s e : List ℕ) where
 pub behind : (a b : List ℕ) (i : ℕ) → byteAt (a ++ b) (length a + i) ≡ byteAt b i
 behind [] b i = rw (zero-add i)
 behind (x ∷ xs) b i = rw (suc-add (length xs) i) (behind xs b i)
+
+-- and what stands in a, whatever is behind it
+pub ahead : (a b : List ℕ) (i : ℕ) → i < length a → byteAt (a ++ b) i ≡ byteAt a i
+ahead [] b i l = absurd (not-suc-le-zero l)
+ahead (x ∷ xs) b zero l = refl
+ahead (x ∷ xs) b (suc i) l = ahead xs b i (omega arith)
 
 -- a list is its first n bytes and the rest
 pub front : (n : ℕ) (s : List ℕ) → n ≤ length s → bytes s 0 n ++ drop n s ≡ s

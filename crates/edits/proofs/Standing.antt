@@ -7,7 +7,6 @@ use borrow.Author.Tests.{eqb-true}
 use native.Mathlib.Nat.{not-suc-le-zero}
 use native.Mathlib.Omega.{arith}
 use Prim.Native.Nat.{ℕ, zero, suc, _+_, _≤_, _<_}
-use Rattle.runs.specs.Bus.{Bus}
 use Rattle.runs.specs.Nodes.{Node}
 use Rattle.runs.proofs.Cases.{split}
 use Rattle.bytes.specs.Bytes.{byteAt, wordAt}
@@ -15,18 +14,18 @@ use Rattle.bytes.proofs.Agreeing.{Agree, agree-part, agree-first, agree-here, a
 use Rattle.schedule.specs.Said.{said}
 use Rattle.schedule.proofs.Writings.{agree-said}
 use Rattle.rows.specs.Tests.{nodeLengthOk, lengthOk, nodeValueOk, valueOk, childrenOk, entryOk}
-use Rattle.rows.specs.Fields.{fieldAt, tagAt, lengthAt, bodyAt, closedAt, GoodField}
+use Rattle.rows.specs.Fields.{fieldAt, tagAt, lengthAt, bodyAt, GoodField}
 use Rattle.nodes.specs.Nodes.{nodeFrom, meant, nodeAt, treeAt}
 use Rattle.image.specs.Tasks.{startsOf}
 use Rattle.image.specs.Conditions.{Complete, Ending, last, named, Accepting}
 use Rattle.image.specs.Judged.{judged}
 use Rattle.image.specs.declared.Verdict.the-variants.{Accepted}
-use Rattle.rows.proofs.Standing.{next-at, first-at, unclosed-fewer}
+use Rattle.rows.proofs.Standing.{next-at, unclosed-fewer}
+use Rattle.rows.proofs.Unmoved as unmoved
 use Rattle.rows.proofs.Kept.{first-end}
-use Rattle.rows.proofs.Rules.{kept-durations, tested, good as made}
+use Rattle.rows.proofs.Rules.{kept-durations, tested}
 use Rattle.nodes.proofs.Levels.{falls}
-use Rattle.rows.proofs.Reading.{covers-row, agree-value, agree-children, agree-entry}
-use Rattle.nodes.proofs.Reading.{agree-node}
+use Rattle.nodes.proofs.Reading.{node-unmoved}
 use Rattle.image.proofs.Sounds.{stand, entry-below}
 use Rattle.image.proofs.Reasons.{accepted-when}
 use Rattle.edits.specs.Edits.{placeOf, imageWith}
@@ -89,14 +88,13 @@ module _ (s : List ℕ) (node lo hi : ℕ) (d : Editable s node lo hi) where
 
   -- so every field stands where it stood
   length-same : (j : ℕ) → wordAt after (fieldAt s j + 1) ≡ lengthAt s j
-  length-same j = agree-word s after (fieldAt s j) (fieldAt s j) 3 1 (head j) (omega arith)
+  length-same j = unmoved.length-same s after (suc j) (λ k l. head k) j (omega arith)
 
   tag-same : (j : ℕ) → byteAt after (fieldAt s j) ≡ tagAt s j
-  tag-same j = agree-here s after (fieldAt s j) (fieldAt s j) 3 (head j) (omega arith)
+  tag-same j = unmoved.tag-same s after (suc j) (λ k l. head k) j (omega arith)
 
   pub place-same : (j : ℕ) → fieldAt after j ≡ fieldAt s j
-  place-same zero = first-at after ∙ sym (first-at s)
-  place-same (suc j) = rw (next-at after j, place-same j, length-same j, next-at s j)
+  place-same j = unmoved.place-same s after j (λ k l. head k) j (omega arith)
 
   -- and what is not the block's own has the same body
   body-before : (j : ℕ) → j < node + 2 → Same (bodyAt s j) (lengthAt s j)
@@ -121,37 +119,9 @@ module _ (s : List ℕ) (node lo hi : ℕ) (d : Editable s node lo hi) where
   pub starts-same : startsOf after ≡ startsOf s
   starts-same = rw (place-same 1, length-same 1) (agree-bytes s after (bodyAt s 1) (bodyAt s 1) (lengthAt s 1) (body-before 1 (omega arith)))
 
-  -- what each field before it has, whether it has closed the image, stays
-  closed-same : (j : ℕ) → closedAt after j ≡ closedAt s j
-  closed-same zero = refl
-  closed-same (suc j) = rw (place-same j, tag-same j)
-
-  -- a good field whose numbers still keep their row's rules is good
-  still-good : (j : ℕ) → GoodField s j → valueOk after (tagAt s j) (bodyAt s j) (lengthAt s j) ≡ true
-      → childrenOk after (tagAt s j) (bodyAt s j) (lengthAt s j) j ≡ true → entryOk after (tagAt s j) (bodyAt s j) j ≡ true → GoodField after j
-  still-good j x v c n =
-      let g = tested s j x in
-      made after j
-      (record {
-        head = rw (place-same j, long) (g .head);
-        tag = rw (closed-same j, place-same j, tag-same j) (g .tag);
-        room = rw (place-same j, tag-same j) (g .room);
-        len = rw (place-same j, tag-same j, length-same j) (g .len);
-        body = rw (place-same j, length-same j, long) (g .body);
-        value = rw (place-same j, tag-same j, length-same j) v;
-        children = rw (place-same j, tag-same j, length-same j) c;
-        entry = rw (place-same j, tag-same j) n;
-      })
-
-  -- such as one with the same body
+  -- one with the same body is good
   body-good : (j : ℕ) → GoodField s j → Same (bodyAt s j) (lengthAt s j) → GoodField after j
-  body-good j x h =
-      let g = tested s j x in
-      let c = covers-row (tagAt s j) (lengthAt s j) (g .len) in
-      still-good j x
-      (agree-value s after (tagAt s j) (bodyAt s j) (bodyAt s j) (lengthAt s j) (lengthAt s j) c h (ap (λ (b : Bus). b .period) bus-same) (ap (λ (b : Bus). b .most) bus-same) ∙ g .value)
-      (agree-children s after (tagAt s j) (bodyAt s j) (bodyAt s j) (lengthAt s j) (lengthAt s j) c h j ∙ g .children)
-      (agree-entry s after (tagAt s j) (bodyAt s j) (bodyAt s j) (lengthAt s j) (lengthAt s j) c h j ∙ g .entry)
+  body-good j g h = unmoved.body-good s after (suc j) (λ k l. head k) (omega (arith, long)) j (omega arith) g bus-same h
 
   -- and the block's own
   lowest : wordAt after (placeOf s node + 3) ≡ lo
@@ -162,7 +132,9 @@ module _ (s : List ℕ) (node lo hi : ℕ) (d : Editable s node lo hi) where
 
   own-good : GoodField after (node + 2)
   unfolding valueOk nodeValueOk childrenOk entryOk
-  own-good = still-good (node + 2) here (rw (tag, lowest, highest) (kept-durations lo hi (d .durations))) (rw tag) (rw tag)
+  own-good =
+      unmoved.still-good s after (node + 3) (λ k l. head k) (omega (arith, long)) (node + 2) (omega arith) here
+      (rw (tag, lowest, highest) (kept-durations lo hi (d .durations))) (rw tag) (rw tag)
 
   all-good : (j : ℕ) → GoodField s j → GoodField after j
   all-good j x =
@@ -185,16 +157,11 @@ module _ (s : List ℕ) (node lo hi : ℕ) (d : Editable s node lo hi) where
 
   -- every other node says what it said
   pub node-other : (n : ℕ) → n < d .outline .nodes → (n ≡ node → ⊥) → nodeAt after n ≡ nodeAt s n
-  unfolding nodeAt
   node-other n l ne =
-      let g = tested s (n + 2) (good (n + 2) (omega arith)) in
-      let t = tagAt s (n + 2) in
-      let m = lengthAt s (n + 2) in
-      rw (place-same (n + 2), tag-same (n + 2), length-same (n + 2))
-      (agree-node s after t (bodyAt s (n + 2)) (bodyAt s (n + 2)) m m (covers-row t m (g .len))
+      node-unmoved s after n (λ k m. head k) (good (n + 2) (omega arith))
       (split node n
       (λ r. body-behind (n + 2) (let z : node < n = omega (arith, distinct r) in omega arith))
-      (λ r. body-before (n + 2) (omega arith))))
+      (λ r. body-before (n + 2) (omega arith)))
     where
       distinct : node ≤ n → node < n
       distinct m = split n node (λ q. absurd (ne (omega arith))) (λ q. q)

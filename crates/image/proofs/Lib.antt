@@ -10,3 +10,4 @@ pub mod Worked
 pub mod Walks
 pub mod SameRest
 pub mod EitherWay
+pub mod Closing

@@ -1,7 +1,7 @@
 -- The number of lines: every node's line is below it, and it is at most 4.
-use mathlib.Core.Path.{_≡_}
+use mathlib.Core.Path.{_≡_, refl, ap, ap₂}
 use mathlib.Core.List.{List}
-use Prim.Native.Nat.{ℕ, zero, suc, _+_, _≤_, _<_}
+use Prim.Native.Nat.{ℕ, zero, suc, _+_, _≤_, _<_, max}
 use native.Mathlib.Nat.{not-suc-le-zero, le-of-suc-le-suc}
 use native.Mathlib.Omega.{arith}
 use Rattle.runs.proofs.Cases.{split}
@@ -41,6 +41,12 @@ line-below s k (suc n) h =
 -- an image of no lines has no block fetched once
 pub no-lines : (s : List ℕ) (n : ℕ) → linesOf s n ≡ 0 → (k : ℕ) → k < n → nodeLines (nodeAt s k) ≡ 0
 no-lines s n e k h = omega (arith, line-below s k n h)
+
+-- images whose nodes are the same have as many
+pub lines-alike : (s e : List ℕ) (n : ℕ) → ((k : ℕ) → k < n → nodeAt e k ≡ nodeAt s k) → linesOf e n ≡ linesOf s n
+unfolding linesTo
+lines-alike s e zero h = refl
+lines-alike s e (suc n) h = ap₂ max (lines-alike s e n (λ k l. h k (omega arith))) (ap nodeLines (h n (omega arith)))
 
 -- there are at most 16 sets
 pub few-sets : (x : ℕ) → x ≤ 4 → power x ≤ 16

@@ -3,3 +3,4 @@ pub mod Rules
 pub mod Kept
 pub mod Standing
 pub mod Reading
+pub mod Unmoved
