@@ -13,7 +13,7 @@ use Rattle.bus.specs.declared.Slots.{Slots}
 use Rattle.bytes.specs.Bytes.{byteAt, wordAt, bytes}
 use Rattle.bytes.proofs.Agreeing.{front}
 use Rattle.schedule.specs.Said.{slotsAt, said}
-use Rattle.schedule.specs.Written.{slotsField, turnsField}
+use Rattle.schedule.specs.Written.{slotsField, turnsField, otherWay}
 use Rattle.schedule.proofs.Sayings.{slots-ranged}
 use Rattle.schedule.proofs.Writings.{evenly}
 use Rattle.image.specs.Tasks.{taskOf}
@@ -28,7 +28,8 @@ use Rattle.rows.proofs.Kept.{slots-row}
 use Rattle.image.proofs.Reasons.{when-accepted}
 use Rattle.image.proofs.Sounds.{stand, ranged-kept, accepted}
 use Rattle.answers.specs.Answers.{given, refused, afterJudging, answer, tableFor, tableAfter}
-use Rattle.answers.specs.EitherWay.{answerMoved, EitherWay, EqualAnswers}
+use Rattle.answers.specs.EitherWay.{answerMoved, EitherWay}
+use Rattle.answers.specs.EqualAnswers.{EqualAnswers}
 use Rattle.answers.proofs.Promises.{figures-given}
 
 module _ (v : Slots) (h : Ranges v) (rest table : List ℕ) where
@@ -103,7 +104,7 @@ module _ (s table : List ℕ) (k : Outline) (ok : judged s ≡ Accepted k) (tag 
       let (six, three) = slots-row s (stand s k (when-accepted s k ok) 0 (omega arith) .0) tag in
       split-off s six tag three
 
-  pub equal-answers : EqualAnswers s k table
+  pub equal-answers : EqualAnswers s k (otherWay s) table
   equal-answers =
       let d = 2 * byteAt s 3 - 2 in
       record {

@@ -2,3 +2,4 @@ pub mod Whole
 pub mod Accesses
 pub mod Promises
 pub mod EitherWay
+pub mod Closing

@@ -2,15 +2,12 @@
 -- Definitions only.
 use mathlib.Core.Path.{_≡_}
 use mathlib.Core.List.{List, _++_}
-use Prim.Native.Nat.{ℕ, _+_, _-_, _*_, _≤_}
-use lib.ListN.{length}
+use Prim.Native.Nat.{ℕ, _+_, _-_, _*_}
 use Rattle.runs.specs.Slots.{Slots}
 use Rattle.runs.specs.Schedules.{even}
-use Rattle.schedule.specs.Written.{slotsField, turnsField, otherWay}
+use Rattle.schedule.specs.Written.{slotsField, turnsField}
 use Rattle.image.specs.Judged.{judged}
 use Rattle.image.specs.Moved.{moved}
-use Rattle.image.specs.declared.Outline.{Outline}
-use Rattle.image.specs.declared.Verdict.the-variants.{Accepted}
 use Rattle.answers.specs.Answers.{Result, given, refused, answer, tableAfter}
 
 -- the same figures, or the same refusal d bytes further on
@@ -24,10 +21,3 @@ pub record EitherWay (v : Slots) (rest table : List ℕ) : Type 0 where
   pub verdict : judged (turnsField (even v) ++ rest) ≡ moved (2 * v .cores - 2) (judged (slotsField v ++ rest))
   pub answers : answer (turnsField (even v) ++ rest) table ≡ answerMoved (2 * v .cores - 2) (answer (slotsField v ++ rest) table)
   pub tables : tableAfter (turnsField (even v) ++ rest) table ≡ tableAfter (slotsField v ++ rest) table
-
--- of an accepted image with tag 1, and the same image written with tag 9: the same task, the same figures where places enough are lent (else both have
--- 10), the same table
-pub record EqualAnswers (s : List ℕ) (k : Outline) (table : List ℕ) : Type 0 where
-  pub verdict : judged (otherWay s) ≡ Accepted k
-  pub answers : k .period ≤ length table → answer (otherWay s) table ≡ answer s table
-  pub tables : tableAfter (otherWay s) table ≡ tableAfter s table

@@ -2,4 +2,5 @@ pub mod Answers
 pub mod WholeRuns
 pub mod Accesses
 pub mod EitherWay
+pub mod EqualAnswers
 pub mod Promise
