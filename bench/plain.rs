@@ -1,5 +1,5 @@
 //! The job of `figure` done the plain way, for the comparison of speed (bench/README.md): a task image on standard input, its listing on
-//! standard output, as document 01 and requests W5 and W9 of document 02 have them, refusals included. Standard library only.
+//! standard output, as document 01 and requests W1, W5 and W9 of document 02 have them, refusals included. Standard library only.
 //!
 //! The plain way: each visit of a block takes every reached offset and every duration, and a loop is unrolled by a plain loop; where an image
 //! has lines, there is one table of longest times for each set of lines fetched. With equal slots a wait is worked out where it is asked for;
@@ -71,6 +71,7 @@ struct Task<'a> {
     bus: Bus,
     starts: &'a [u8],
     nodes: Vec<Node<'a>>,
+    entry: usize,
     lines: usize, // one more than the highest line number of a node, reached or not, or 0
 }
 
@@ -81,10 +82,11 @@ struct Refusal {
 
 // ---- judging
 
-/// Fields are judged from the front, each in the order head cut, 2, 3, 4, body cut, 5, 6; then 7, 8, 9, 18.
+/// Fields are judged from the front, each in the order head cut, 2, 3, 4, body cut, 5, 6, 11; then 7, 8, 9, 18.
 fn judge(image: &[u8]) -> Result<Task<'_>, Refusal> {
     let mut task = Task::default();
     let mut sizes: Vec<(usize, usize)> = Vec::new(); // each node's depth and visits
+    let mut named = None; // the entry, where a field with tag 8 has closed the image
     let mut place = 0;
     let mut field = 0;
     while place < image.len() {
@@ -93,12 +95,13 @@ fn judge(image: &[u8]) -> Result<Task<'_>, Refusal> {
         let tag_fits = match field {
             0 => *tag == 1 || *tag == 9,
             1 => *tag == 2,
-            _ => (3..=7).contains(tag) || *tag == 10,
+            2 => (3..=7).contains(tag) || *tag == 10,
+            _ => named.is_none() && ((3..=8).contains(tag) || *tag == 10),
         };
         if !tag_fits {
             return refuse(2);
         }
-        if task.nodes.len() == 256 {
+        if task.nodes.len() == 256 && *tag != 8 {
             return refuse(3);
         }
         let length = word(&[*high, *low]);
@@ -109,6 +112,7 @@ fn judge(image: &[u8]) -> Result<Task<'_>, Refusal> {
             5 => (2..=32).contains(&length) && length % 2 == 0,
             6 => (4..=16).contains(&length) && length % 2 == 0,
             7 => length == 6,
+            8 => length == 2,
             9 => (3..=65).contains(&length) && length % 2 == 1,
             _ => length == 5,
         };
@@ -135,6 +139,13 @@ fn judge(image: &[u8]) -> Result<Task<'_>, Refusal> {
                 }
                 task.starts = body;
             }
+            8 => {
+                let number = word(body);
+                if number >= task.nodes.len() {
+                    return refuse(11);
+                }
+                named = Some(number);
+            }
             _ => {
                 let Some(node) = node(*tag, body, &task.bus) else { return refuse(5) };
                 let Some(size) = size(&node, &sizes) else { return refuse(6) };
@@ -149,10 +160,11 @@ fn judge(image: &[u8]) -> Result<Task<'_>, Refusal> {
         field += 1;
     }
     let refuse = |number| Err(Refusal { number, place });
-    match sizes.last() {
-        None => refuse(7),
-        Some((depth, _)) if *depth > 24 => refuse(8),
-        Some((_, visits)) if *visits > 100_000 => refuse(9),
+    let Some(last) = sizes.len().checked_sub(1) else { return refuse(7) };
+    task.entry = named.unwrap_or(last);
+    match sizes[task.entry] {
+        (depth, _) if depth > 24 => refuse(8),
+        (_, visits) if visits > 100_000 => refuse(9),
         _ if task.bus.period << task.lines > 1024 => refuse(18),
         _ => Ok(task),
     }
@@ -360,7 +372,7 @@ impl Task<'_> {
         for &start in self.starts {
             times[0][start as usize] = 0;
         }
-        self.longest(self.nodes.len() - 1, &mut times);
+        self.longest(self.entry, &mut times);
         for set in 1..SETS {
             let from = times[set];
             self.join_table(&mut times[0], &from);
@@ -461,7 +473,7 @@ fn listing(image: &[u8]) -> String {
     for &start in task.starts {
         set[start as usize] = true;
     }
-    let published = task.cost(task.nodes.len() - 1, &mut set);
+    let published = task.cost(task.entry, &mut set);
     let exits = || times[..task.bus.period].iter().enumerate().filter(|(_, &time)| time != NONE);
     let tight = exits().map(|(_, &time)| time).max().unwrap_or(0);
     let _ = write!(text, "tight {tight}\npublished {published}\nexits {}\n", exits().count());

@@ -31,13 +31,14 @@ enum {
 };
 
 /* The number of a refusal. Of an image the first that holds is answered: fields are judged from the front, within one in the order head cut,
- * 2, 3, 4, body cut, 5, 6; then 7, 8, 9, 18; then, where a block is named, 19 and 5 of the durations given for it; 10 is the last. Its place
- * is the byte position of the field's tag for 1 to 6, that of the block's field for the durations given, and the image's length for 7 to 10,
- * 18 and 19. Of an arbiter the numbers are 17, then 15 and then 16, with place 0. Of a task table the number is 21, and its place is an
- * entry's index, or 0 for the table's size. */
+ * 2, 3, 4, body cut, 5, 6, 11; then 7, 8, 9, 18; then, where a block is named, 19 and 5 of the durations given for it; 10 is the last. Its
+ * place is the byte position of the field's tag for 1 to 6 and 11, that of the block's field for the durations given, and the image's length
+ * for 7 to 10, 18 and 19. Of an arbiter the numbers are 17, then 15 and then 16, with place 0. Of a task table the number is 21, and its place
+ * is an entry's index, or 0 for the table's size. */
 enum {
     SLOTFIGURES_CUT = 1,        /* "cut": 1 or 2 bytes left where a field's head should stand, or a body with bytes missing */
-    SLOTFIGURES_TAG = 2,        /* "tag": the first field's tag is neither 1 nor 9, the second's not 2, or a later one's neither 3 to 7 nor 10 */
+    SLOTFIGURES_TAG = 2,        /* "tag": the first field's tag is neither 1 nor 9, the second's not 2, or a later one's neither 3 to 7 nor 10,
+                                   nor 8 behind a node field; or a field stands behind one with tag 8 */
     SLOTFIGURES_FULL = 3,       /* "full": a 257th node field */
     SLOTFIGURES_LENGTH = 4,     /* "length": a body length that the tag does not permit */
     SLOTFIGURES_VALUE = 5,      /* "value": a number that breaks the rules of its field, order, products and sums included; or the durations
@@ -47,6 +48,7 @@ enum {
     SLOTFIGURES_DEEP = 8,       /* "deep": the entry's depth is above 24 */
     SLOTFIGURES_LONG = 9,       /* "long": the entry's visits are above 100,000 */
     SLOTFIGURES_TABLE = 10,     /* "table": the table has fewer places than the period; slotfigures_figures and slotfigures_preview only */
+    SLOTFIGURES_ENTRY = 11,     /* "entry": the number in tag 8 is not that of a node */
     SLOTFIGURES_REGISTER = 15,  /* "register": a core, register or value out of range (a reset's too), a write to the flags, or, save for
                                    a reset, a state that is not well formed (see below); slotfigures_arbiter_* only */
     SLOTFIGURES_BUSY = 16,      /* "busy": a length written while waiting or running; slotfigures_arbiter_write only */
@@ -70,9 +72,11 @@ enum {
 #define SLOTFIGURES_MOST_WAITS 8
 
 /* Judges an image.
- *   image    the task image's bytes
+ *   image    the task image's bytes. Its nodes are numbered from 0 as they stand in it: the third field is node 0. The last node is the entry,
+ *            or the one whose number stands in a field with tag 8, which may close the image and is no node. No accepted image has more than
+ *            9,265 bytes.
  *   answer   at least 2 places. DONE: 0, and the period, which is the number of places that a table for this image needs.
- *            REFUSED: the number, 1 to 9 or 18, and the place. Later places keep their contents.
+ *            REFUSED: the number, 1 to 9, 11 or 18, and the place. Later places keep their contents.
  */
 uint64_t slotfigures_judge(const uint8_t *image, size_t image_length, uint64_t *answer, size_t answer_length);
 
@@ -81,7 +85,7 @@ uint64_t slotfigures_judge(const uint8_t *image, size_t image_length, uint64_t *
  *   table    at least as many places as the period. DONE: place o below the period holds the longest time of a run that ends at
  *            offset o, or SLOTFIGURES_NO_TIME; later places keep their contents. Otherwise the table keeps its contents.
  *   answer   at least 3 places. DONE: the tight figure, the published figure and the number of exit offsets.
- *            REFUSED: the number, 1 to 10 or 18, and the place. Later places keep their contents.
+ *            REFUSED: the number, 1 to 11 or 18, and the place. Later places keep their contents.
  */
 uint64_t slotfigures_figures(const uint8_t *image, size_t image_length, uint64_t *table, size_t table_length,
                              uint64_t *answer, size_t answer_length);
@@ -89,11 +93,11 @@ uint64_t slotfigures_figures(const uint8_t *image, size_t image_length, uint64_t
 /* Sets the durations of one plain block in an image: the four bytes of its field's body, and no other byte.
  *   image    the task image's bytes, which are written: the answer may not overlap them. DONE: the durations are set, and the edited
  *            image is accepted too. Otherwise every byte is as it was.
- *   node     the block's number. Nodes are numbered from 0 as they stand in the image: its third field is node 0, its last the entry.
+ *   node     the block's number. Nodes are numbered from 0 as they stand in the image: its third field is node 0.
  *   lowest, highest   the durations, in cycles: highest at most 65,535, lowest at most highest, and at most 63 less
  *            (all 64 bits of these three numbers count)
  *   answer   at least 2 places. DONE: 0 and 0.
- *            REFUSED: the number, 1 to 9, 18 or 19, and the place. Later places keep their contents.
+ *            REFUSED: the number, 1 to 9, 11, 18 or 19, and the place. Later places keep their contents.
  */
 uint64_t slotfigures_edit(uint8_t *image, size_t image_length, uint64_t node, uint64_t lowest, uint64_t highest,
                           uint64_t *answer, size_t answer_length);
@@ -104,7 +108,7 @@ uint64_t slotfigures_edit(uint8_t *image, size_t image_length, uint64_t node, ui
  *   node, lowest, highest   as for slotfigures_edit
  *   table    at least as many places as the period. DONE: filled as slotfigures_figures would. Otherwise the table keeps its contents.
  *   answer   at least 3 places. DONE: the tight figure, the published figure and the number of exit offsets.
- *            REFUSED: the number, 1 to 10, 18 or 19, and the place. Later places keep their contents.
+ *            REFUSED: the number, 1 to 11, 18 or 19, and the place. Later places keep their contents.
  */
 uint64_t slotfigures_preview(const uint8_t *image, size_t image_length, uint64_t node, uint64_t lowest, uint64_t highest,
                              uint64_t *table, size_t table_length, uint64_t *answer, size_t answer_length);

@@ -9,7 +9,7 @@ use slotfigures::{
 use std::io::Read;
 
 // The table's words, by number; 18 has its own.
-const WORDS: [&str; 11] = [
+const WORDS: [&str; 12] = [
     "",
     "cut",
     "tag",
@@ -21,6 +21,7 @@ const WORDS: [&str; 11] = [
     "deep",
     "long",
     "table",
+    "entry",
 ];
 
 enum Expected {
@@ -115,15 +116,17 @@ fn wrong(image: &[u8], expected: &Expected) -> Option<String> {
     None
 }
 
-// Calls as deep as they come: depth 24, all loops over node 0, with the most halvings of counts that 100,000 visits permit. From 4.
+// Calls as deep as they come: depth 24, all loops over node 0, with the most halvings of counts that 100,000 visits permit. From 4. One loop more
+// stands above the entry, which is named.
 fn deepest(bus: &str, blocks: &[&str]) -> Vec<u8> {
     let mut image = read_image(&format!("{bus} 02000104 {}", blocks.concat()));
     let mut body = 0;
-    for i in 0..23 {
+    for i in 0..24 {
         let count = if i < 7 { 5 } else { 1 };
         image.extend([7, 0, 6, 0, count, 0, count, 0, body]);
         body = blocks.len() as u8 + i;
     }
+    image.extend([8, 0, 2, 0, body - 1]);
     image
 }
 
@@ -181,20 +184,24 @@ fn deepest_previews() -> bool {
         && takes(below, &other, [3 * 78_125; 2], 9)
 }
 
-// The longest image of a block: it, and 255 sequences of 16 children, from all 256 starts, on a bus of 32 pairs.
+// The longest image of a block: it, and 255 sequences of 16 children, of which the last is named, from all 256 starts, on a bus of 32 pairs.
 fn longest(block: &str) -> Vec<u8> {
     let mut image = read_image(&format!("09004100 {} 020100", "00080108".repeat(16)));
     image.extend(0..=255);
     image.extend(read_image(block));
     image.extend([&[5, 0, 32][..], &[0; 32]].concat().repeat(255));
+    image.extend([8, 0, 2, 0, 255]);
     image
 }
 
-// The longest image of all, and with a line more, which no period of 256 permits.
+// The longest image of all, with a line more, which no period of 256 permits, and with the number of no node.
 fn most_bytes() -> bool {
     let (line_1, line_2) = ("0a00050101010000", "0a00050201010000");
-    let good = period(&longest(line_1)) == Ok(256) && longest(line_1).len() == 9260;
-    good && period(&longest(line_2)) == Err(refusal(18, 9260))
+    let good = period(&longest(line_1)) == Ok(256) && longest(line_1).len() == 9265;
+    let mut none = longest(line_1);
+    none[9263] = 1;
+    good && period(&longest(line_2)) == Err(refusal(18, 9265))
+        && period(&none) == Err(refusal(11, 9260))
 }
 
 // The last of the most nodes, all plain, and the first of the longest image with a plain block.
@@ -204,7 +211,7 @@ fn edited() -> bool {
     let mut longest = longest(PLAIN);
     let good = edit(&mut nodes, 255, 3, 4).is_ok() && edit(&mut longest, 0, 3, 4).is_ok();
     let four = [0, 3, 0, 4];
-    good && nodes[1798..] == four && longest.len() == 9259 && longest[330..334] == four
+    good && nodes[1798..] == four && longest.len() == 9264 && longest[330..334] == four
 }
 
 // The largest table: 64 tasks of the largest time on one core, each waiting for as many as it may of those before it.

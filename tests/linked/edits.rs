@@ -47,7 +47,7 @@ fn refused(r: Refusal) -> Result<String, String> {
         18 => "lines",
         19 => "block",
         n => {
-            let words = "cut tag full length value forward unfinished deep long table";
+            let words = "cut tag full length value forward unfinished deep long table entry";
             words.split(' ').nth(n as usize - 1).expect("a word")
         }
     };

@@ -143,7 +143,7 @@ impl Task<'_> {
     }
 }
 
-/// Why nothing is given: the number, its word and its place. The numbers 1 to 10 and 18 are told of an image, and the place is a byte position
+/// Why nothing is given: the number, its word and its place. The numbers 1 to 11 and 18 are told of an image, and the place is a byte position
 /// or, for 7 to 10 and 18, the image's length. Of a change, 19 is told of a node that does not exist or is no plain block, and the place is
 /// the image's length; 5 also of durations out of range, and the place is that of the block's field. 15 and 16 are told of an [`Arbiter`], and
 /// the place is 0; 17 is told of a core above 15 that asks for a handle, and of no call of a handle. 21 is told of a table of tasks, and the
@@ -168,6 +168,7 @@ fn word(number: u64) -> &'static str {
         8 => "deep",
         9 => "long",
         10 => "table",
+        11 => "entry",
         15 => "register",
         16 => "busy",
         17 => "forbidden",
@@ -201,8 +202,8 @@ fn told(call: impl FnOnce(&mut [u64]) -> u64) -> Result<[u64; 3], Refusal> {
     }
 }
 
-/// The period of an accepted image, which is the number of places that [`figures`] and [`preview`] need; or why it is refused (numbers 1 to 9
-/// and 18).
+/// The period of an accepted image, which is the number of places that [`figures`] and [`preview`] need; or why it is refused (numbers 1 to 9,
+/// 11 and 18).
 pub fn period(image: &[u8]) -> Result<usize, Refusal> {
     // the pointers and lengths are those of an image and an answer that live through the call and do not overlap
     let [_, period, _] = told(|answer| unsafe {
@@ -216,7 +217,10 @@ pub fn period(image: &[u8]) -> Result<usize, Refusal> {
     Ok(period as usize)
 }
 
-/// Whether an image is accepted, or why it is not (numbers 1 to 9 and 18).
+/// Whether an image is accepted, or why it is not (numbers 1 to 9, 11 and 18).
+///
+/// Nodes are numbered from 0 as they stand in the image: its third field is node 0. The last is the entry, or the one whose number stands in a
+/// field with tag 8, which may close the image and is no node. No accepted image has more than 9,265 bytes.
 pub fn judge(image: &[u8]) -> Result<(), Refusal> {
     period(image).map(|_| ())
 }
@@ -231,7 +235,7 @@ fn figured(call: impl FnOnce(&mut [u64]) -> u64) -> Result<Figures, Refusal> {
 }
 
 /// Both figures and the exit count of an image. Place o of the table, for each offset o below the period, then holds the longest time
-/// of a run that ends there, or [`NO_TIME`]; later places keep their contents, and after a refusal (numbers 1 to 10 and 18) all do.
+/// of a run that ends there, or [`NO_TIME`]; later places keep their contents, and after a refusal (numbers 1 to 11 and 18) all do.
 pub fn figures(image: &[u8], table: &mut [u64]) -> Result<Figures, Refusal> {
     // the pointers and lengths are those of an image, a table and an answer that live through the call and do not overlap
     figured(|answer| unsafe {
@@ -249,9 +253,9 @@ pub fn figures(image: &[u8], table: &mut [u64]) -> Result<Figures, Refusal> {
 /// Sets the durations of one plain block in an image, four bytes and no others; the edited image is accepted too. After a refusal every byte
 /// is as it was.
 ///
-/// Nodes are numbered from 0 as they stand in the image: its third field is node 0, its last the entry. Refused: an image that is not
-/// accepted, by its own number (1 to 9 or 18); then a node that does not exist or is no plain block (19); then durations of which the highest
-/// is above 65,535, or the lowest above the highest or more than 63 below it (5, and the place is that of the block's field).
+/// Nodes are numbered from 0 as they stand in the image: its third field is node 0. Refused: an image that is not accepted, by its own number
+/// (1 to 9, 11 or 18); then a node that does not exist or is no plain block (19); then durations of which the highest is above 65,535, or the
+/// lowest above the highest or more than 63 below it (5, and the place is that of the block's field).
 pub fn edit(image: &mut [u8], node: u64, lowest: u64, highest: u64) -> Result<(), Refusal> {
     // the pointers and lengths are those of an image and an answer that live through the call and do not overlap
     told(|answer| unsafe {
