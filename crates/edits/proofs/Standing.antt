@@ -1,6 +1,5 @@
 -- A possible edit leaves every field where it stands, and every other node as it was; the image stays accepted, with the same task.
-use mathlib.Core.Path.{_≡_, refl, sym, _∙_, ap, subst}
-use mathlib.Core.Bool.{true}
+use mathlib.Core.Path.{_≡_, sym, _∙_, subst}
 use mathlib.Core.List.{List}
 use lib.ListN.{length}
 use borrow.Author.Tests.{eqb-true}
@@ -10,7 +9,7 @@ use Prim.Native.Nat.{ℕ, zero, suc, _+_, _≤_, _<_}
 use Rattle.runs.specs.Nodes.{Node}
 use Rattle.runs.proofs.Cases.{split}
 use Rattle.bytes.specs.Bytes.{byteAt, wordAt}
-use Rattle.bytes.proofs.Agreeing.{Agree, agree-part, agree-first, agree-here, agree-word, agree-bytes}
+use Rattle.bytes.proofs.Agreeing.{Agree, agree-part, agree-first, agree-word, agree-bytes}
 use Rattle.schedule.specs.Said.{said}
 use Rattle.schedule.proofs.Writings.{agree-said}
 use Rattle.rows.specs.Tests.{nodeLengthOk, lengthOk, nodeValueOk, valueOk, childrenOk, entryOk}

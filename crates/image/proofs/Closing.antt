@@ -1,11 +1,11 @@
 -- An accepted image without the field that names the entry, and the same image closed by one that names its last node: both say the same.
-use mathlib.Core.Path.{_≡_, refl, sym, _∙_, ap, subst}
+use mathlib.Core.Path.{_≡_, sym, _∙_, ap, subst}
 use mathlib.Core.Bool.{false}
-use mathlib.Core.List.{List, _++_}
+use mathlib.Core.List.{List}
 use lib.ListN.{length, length-append}
 use native.Mathlib.Omega.{arith}
 use borrow.Author.Tests.{ne-eqb}
-use Prim.Native.Nat.{ℕ, suc, _+_, _-_, _*_, _/_, _%_, _≤_, _<_}
+use Prim.Native.Nat.{ℕ, suc, _+_, _-_, _≤_, _<_}
 use Rattle.runs.specs.Bus.{Bus}
 use Rattle.runs.proofs.Trees.{tree-alike}
 use Rattle.bytes.specs.Bytes.{byteAt, wordAt}
@@ -13,11 +13,11 @@ use Rattle.bytes.proofs.Agreeing.{Agree, agree-bytes, ahead, behind}
 use Rattle.schedule.specs.Said.{said}
 use Rattle.schedule.proofs.Writings.{agree-said}
 use Rattle.rows.specs.Rules.{TagRule, RoomRule, LengthRule, ValueRule}
-use Rattle.rows.specs.Fields.{fieldAt, tagAt, lengthAt, bodyAt, closedAt, GoodField, Passed, Unclosed}
+use Rattle.rows.specs.Fields.{fieldAt, tagAt, lengthAt, bodyAt, closedAt, GoodField, Passed}
 use Rattle.rows.proofs.Kept.{good-head, good-body, first-end}
 use Rattle.rows.proofs.Standing.{next-at, passed-more, unclosed-fewer}
 use Rattle.rows.proofs.Unmoved as unmoved
-use Rattle.nodes.specs.Nodes.{nodeAt, treeAt, linesOf}
+use Rattle.nodes.specs.Nodes.{nodeAt, treeAt}
 use Rattle.nodes.proofs.Levels.{falls}
 use Rattle.nodes.proofs.Fetches.{lines-alike}
 use Rattle.nodes.proofs.Reading.{node-unmoved}
@@ -116,8 +116,7 @@ module _ (s : List ℕ) (k : Outline) (a : Accepting s k) (none : WithoutEntry s
 
   closes : GoodField e (n + 2)
   closes =
-      let f : fieldAt e (n + 2) + 3 + lengthAt e (n + 2) ≤ length e = omega (arith, here, two, long) in
-      (
+      let f : fieldAt e (n + 2) + 3 + lengthAt e (n + 2) ≤ length e = omega (arith, here, two, long) in (
         (((((omega arith, TagRule.entry (omega (arith, entry-is)) not-closed tag), RoomRule.entry tag), LengthRule.entry tag two), f), ValueRule.entry tag),
         record { children = λ lo hi. absurd (omega (arith, tag)); loop = λ q. absurd (omega (arith, tag)) },
         λ t. omega (arith, number, entry-is),

@@ -4,11 +4,11 @@ use mathlib.Core.Path.{_≡_, refl, sym, _∙_, subst}
 use mathlib.Core.Logic.{_⊎_, inl, inr}
 use mathlib.Core.Bool.{false}
 use mathlib.Core.List.{List}
-use Prim.Native.Nat.{ℕ, suc, _+_, _-_, _*_, _≤_, _<_}
+use Prim.Native.Nat.{ℕ, _+_, _-_, _*_, _≤_, _<_}
 use native.Mathlib.Omega.{arith}
 use lib.ListN.{length}
 use lib.Dec.{ltb}
-use borrow.Author.Tests.{lt-ltb, le-ltb, lt-leb}
+use borrow.Author.Tests.{lt-ltb, le-ltb}
 use Rattle.runs.specs.Lines.{power}
 use Rattle.runs.specs.Nodes.{depth, visits}
 use Rattle.schedule.specs.Said.{said}
@@ -25,7 +25,7 @@ use Rattle.image.specs.declared.Outline.{Outline}
 use Rattle.image.specs.declared.Verdict.{Verdict}
 use Rattle.image.specs.declared.Verdict.the-variants.{Accepted, Refused}
 use Rattle.rows.proofs.Rules.{refused, tag-here, room-here, length-here, value-here, child-here, entry-here}
-use Rattle.rows.specs.Rules.{ValueRule, ChildRule}
+use Rattle.rows.specs.Rules.{ValueRule}
 use Rattle.rows.proofs.Kept.{node-room}
 use Rattle.image.proofs.Passing.{stops, ends}
 use Rattle.image.proofs.Endings.{whole-scan, EndSays}

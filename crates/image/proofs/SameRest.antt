@@ -10,7 +10,6 @@ use Rattle.bytes.proofs.Agreeing.{Agree, agree-here, word-here, agree-word, agr
 use Rattle.schedule.specs.Said.{said}
 use lib.Dec.{eqb}
 use borrow.Author.Tests.{ne-eqb}
-use Rattle.bytes.specs.Bytes.{wordAt}
 use Rattle.rows.specs.Tests.{valueOk, childrenOk, entryOk}
 use Rattle.rows.specs.Fields.{fieldAt, tagAt, lengthAt, bodyAt, closedAt, UpToTag, UpToRoom, UpToLength, UpToBody, UpToValue, GoodField, Passed}
 use Rattle.nodes.specs.Nodes.{nodeAt, linesOf, treeAt}
@@ -135,10 +134,10 @@ module _ (a c rest : List ℕ) (d : ℕ) (h : Instead a c rest d) where
   good-moved : (k : ℕ) → GoodField s k → GoodField e k
   good-moved zero g = h .good′
   good-moved (suc k) (u, c, x) = (
-      value-on k u,
-      carries (child-here s (suc k)) (child-here e (suc k)) (sym (children-moved k)) c,
-      carries (entry-here s (suc k)) (entry-here e (suc k)) (sym (entry-moved k)) x,
-    )
+    value-on k u,
+    carries (child-here s (suc k)) (child-here e (suc k)) (sym (children-moved k)) c,
+    carries (entry-here s (suc k)) (entry-here e (suc k)) (sym (entry-moved k)) x,
+  )
 
   passed-moved : (n : ℕ) → Passed s n → Passed e n
   passed-moved n p k l = good-moved k (p k l)

@@ -1,23 +1,19 @@
 -- What a field, a scan and a verdict say: at each test either the condition of a row of the table holds, or judging goes on.
 use mathlib.Core.Path.{_≡_, refl, sym, subst}
 use mathlib.Core.Logic.{⊎-elim}
-use mathlib.Core.Bool.{cond, not}
+use mathlib.Core.Bool.{not}
 use mathlib.Core.List.{List}
-use Prim.Native.Nat.{ℕ, zero, suc, _+_, _-_, _*_, _≤_, _<_}
+use Prim.Native.Nat.{ℕ, zero, suc, _+_, _-_, _≤_, _<_}
 use native.Mathlib.Omega.{arith}
 use native.Mathlib.Numerals.{add-one}
 use lib.ListN.{length}
 use lib.Dec.{eqb, leb, ltb}
 use borrow.Author.Tests.{ltb-true, ltb-false, leb-true, leb-false, not-true, not-false}
-use Rattle.runs.specs.Lines.{power}
-use Rattle.runs.specs.Nodes.{depth, visits}
-use Rattle.schedule.specs.Said.{said}
 use Rattle.rows.specs.Tests.{tagOk, roomOk, lengthOk, valueOk, childrenOk, entryOk}
 use Rattle.image.specs.Judged.{fieldOf, onField, endOf, scanFrom, scan, wholeOf, onEnd, judged}
 use Rattle.rows.specs.Fields.{fieldAt, tagAt, lengthAt, bodyAt, closedAt, UpToTag, UpToBody, UpToValue, GoodField, Passed}
-use Rattle.nodes.specs.Nodes.{linesOf, treeAt}
-use Rattle.image.specs.Conditions.{Complete, Ending, Condition, head-cut, wrong-tag, one-more, wrong-length, body-cut, wrong-value, not-below, no-entry, too-deep, too-long, too-wide, Accepting}
-use Rattle.refusals.specs.declared.Refusal.the-variants.{Cut, Tag, Full, Length, Value, Forward, Deep, Long, Entry, Lines}
+use Rattle.image.specs.Conditions.{Ending, Condition, head-cut, wrong-tag, one-more, wrong-length, body-cut, wrong-value, not-below, no-entry, too-deep, too-long, too-wide, Accepting}
+use Rattle.refusals.specs.declared.Refusal.the-variants.{Cut, Tag, Full, Length, Value, Forward, Entry}
 use Rattle.image.specs.declared.fields.Judgement.{Judgement}
 use Rattle.image.specs.declared.fields.Judgement.the-variants.{Good, Bad}
 use Rattle.image.specs.declared.fields.End.{End}
@@ -117,17 +113,13 @@ module _ (s : List ℕ) where
   whole-says : (n entry : ℕ) → Ending s n entry → VerdictSays (wholeOf s n entry)
   unfolding wholeOf
   whole-says n entry h =
-      let x = linesOf s n in
-      let p4 = Accepted (record { period = said s .period; starts = lengthAt s 1; lines = x; sets = power x; nodes = n; entry = entry }) in
-      let p3 = cond (ltb 1024 (said s .period * power x)) (Refused Lines (length s)) p4 in
-      let p2 = cond (ltb 100000 (visits (treeAt s entry))) (Refused Long (length s)) p3 in
-      by-cond VerdictSays (ltb 24 (depth (treeAt s entry))) (Refused Deep (length s)) p2
+      by-cond VerdictSays _ _ _
       (λ e. too-deep n entry h (ltb-true 24 _ e))
-      (λ e2. let d = ltb-false 24 (depth (treeAt s entry)) e2 in
-      by-cond VerdictSays (ltb 100000 (visits (treeAt s entry))) (Refused Long (length s)) p3
+      (λ e2. let d = ltb-false 24 _ e2 in
+      by-cond VerdictSays _ _ _
       (λ e. too-long n entry h d (ltb-true 100000 _ e))
-      (λ e3. let v = ltb-false 100000 (visits (treeAt s entry)) e3 in
-      by-cond VerdictSays (ltb 1024 (said s .period * power x)) (Refused Lines (length s)) p4
+      (λ e3. let v = ltb-false 100000 _ e3 in
+      by-cond VerdictSays _ _ _
       (λ e. too-wide n entry h d v (ltb-true 1024 _ e))
       (λ e4. record {
         ending = h;

@@ -3,7 +3,7 @@ use mathlib.Core.Path.{_≡_, refl}
 use mathlib.Core.Bool.{Bool, true, false, cond, _&&_}
 use mathlib.Core.Logic.{inl, inr, ⊎-elim}
 use mathlib.Core.List.{List}
-use Prim.Native.Nat.{ℕ, _+_, _-_, _*_, _/_, _%_, _≤_, _<_}
+use Prim.Native.Nat.{ℕ, _+_, _-_, _*_, _/_, _%_, _≤_}
 use native.Mathlib.Omega.{arith}
 use lib.ListN.{length}
 use lib.Dec.{eqb, leb, ltb}
@@ -60,7 +60,7 @@ tag-holds index closed tag =
     (λ n1. let two : 2 ≤ index = omega (arith, eqb-false index 0 n0, eqb-false index 1 n1) in
     row closed _ _ (λ c. none)
     (λ o. row (eqb tag 8) _ _
-    (λ t e. TagRule.entry (leb-true 3 index e) o (eqb-true tag 8 t))
+    (λ t e. TagRule.entry (omega (arith, leb-true 3 index e)) o (eqb-true tag 8 t))
     (λ n8. row (eqb tag 10) _ _
     (λ t e. TagRule.once two o (eqb-true tag 10 t))
     (λ n10 w. let p = is-within 3 7 tag w in TagRule.node two o (p .0) (p .1))))))
@@ -82,7 +82,7 @@ tag-passes index closed tag (TagRule.node two o lo hi) =
     ))
 tag-passes index closed tag (TagRule.once two o t) = rw (o, t) (simp (ne-eqb index 0 (λ e. omega arith), ne-eqb index 1 (λ e. omega arith)))
 tag-passes index closed tag (TagRule.entry three o t) =
-    rw (o, t) (simp (ne-eqb index 0 (λ e. omega arith), ne-eqb index 1 (λ e. omega arith), le-leb 3 index three))
+    rw (o, t) (simp (ne-eqb index 0 (λ e. omega arith), ne-eqb index 1 (λ e. omega arith), le-leb 3 index (omega arith)))
 
 pub tag-rule : (index : ℕ) (closed : Bool) (tag : ℕ) → Decides (tagOk index closed tag) (TagRule index closed tag)
 tag-rule index closed tag = record { holds = tag-holds index closed tag; passes = tag-passes index closed tag }

@@ -52,7 +52,9 @@ period-at-requires c κs =
 lines-requires : tie.Need-lines-requires
 lines-requires c κs =
     let start = c .before .before .before .before .before .before .before in
-    (nodes-stand _ _ _ (start .pre .0), start .pre .1)
+    let a = start .args in
+    let low = entry-low (a .image .now) (a .nodes) (a .entry) (start .pre .0) in
+    (unclosed-fewer _ _ (a .nodes + 2) (omega arith) (nodes-stand _ _ _ (start .pre .0)), λ k l. start .pre .1 k (omega arith))
 
 -- at most 4 lines
 few-lines : (s : List ℕ) (n entry : ℕ) → Ending s n entry → linesOf s n ≤ 4
