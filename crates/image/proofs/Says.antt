@@ -12,6 +12,8 @@ use borrow.Author.Tests.{ltb-true, ltb-false, leb-true, leb-false, not-true, not
 use Rattle.rows.specs.Tests.{tagOk, roomOk, lengthOk, valueOk, childrenOk, entryOk}
 use Rattle.image.specs.Judged.{fieldOf, onField, endOf, scanFrom, scan, wholeOf, onEnd, judged}
 use Rattle.rows.specs.Fields.{fieldAt, tagAt, lengthAt, bodyAt, closedAt, UpToTag, UpToBody, UpToValue, GoodField, Passed}
+use Rattle.runs.specs.Nodes.{depth, visits}
+use Rattle.nodes.specs.Nodes.{treeAt}
 use Rattle.image.specs.Conditions.{Ending, Condition, head-cut, wrong-tag, one-more, wrong-length, body-cut, wrong-value, not-below, no-entry, too-deep, too-long, too-wide, Accepting}
 use Rattle.refusals.specs.declared.Refusal.the-variants.{Cut, Tag, Full, Length, Value, Forward, Entry}
 use Rattle.image.specs.declared.fields.Judgement.{Judgement}
@@ -114,11 +116,11 @@ module _ (s : List ℕ) where
   unfolding wholeOf
   whole-says n entry h =
       by-cond VerdictSays _ _ _
-      (λ e. too-deep n entry h (ltb-true 24 _ e))
-      (λ e2. let d = ltb-false 24 _ e2 in
+      (λ e. too-deep n entry h (ltb-true 24 (depth (treeAt s entry)) e))
+      (λ e2. let d = ltb-false 24 (depth (treeAt s entry)) e2 in
       by-cond VerdictSays _ _ _
-      (λ e. too-long n entry h d (ltb-true 100000 _ e))
-      (λ e3. let v = ltb-false 100000 _ e3 in
+      (λ e. too-long n entry h d (ltb-true 100000 (visits (treeAt s entry)) e))
+      (λ e3. let v = ltb-false 100000 (visits (treeAt s entry)) e3 in
       by-cond VerdictSays _ _ _
       (λ e. too-wide n entry h d v (ltb-true 1024 _ e))
       (λ e4. record {
