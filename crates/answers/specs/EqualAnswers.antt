@@ -8,7 +8,7 @@ use Rattle.image.specs.declared.Outline.{Outline}
 use Rattle.image.specs.declared.Verdict.the-variants.{Accepted}
 use Rattle.answers.specs.Answers.{answer, tableAfter}
 
--- of an accepted image s with the outline k, and the other: the same task, the same figures where places enough are lent (else both have 10), the same table
+-- of an accepted image s with the outline k, and the other: the same outline, the same figures where places enough are lent, the same table
 pub record EqualAnswers (s : List ℕ) (k : Outline) (other table : List ℕ) : Type 0 where
   pub verdict : judged other ≡ Accepted k
   pub answers : k .period ≤ length table → answer other table ≡ answer s table

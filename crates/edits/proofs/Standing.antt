@@ -150,7 +150,6 @@ module _ (s : List ℕ) (node lo hi : ℕ) (d : Editable s node lo hi) where
   ending-same : (n entry : ℕ) → node < n → Ending s n entry → Ending after n entry
   ending-same n entry low (last c ne e) = last (complete-same (n + 2) c) (λ t. ne (rw (place-same (n + 1), tag-same (n + 1)) at t)) e
   ending-same n entry low (named c t e) =
-      let b = bodyAt s (n + 2) in
       named (complete-same (n + 3) c) (rw (place-same (n + 2), tag-same (n + 2)) t)
       (e ∙ rw (place-same (n + 2)) (sym (agree-word s after (fieldAt s (n + 2)) (fieldAt s (n + 2)) 5 3 (behind (n + 2) 5 (omega arith)) (omega arith))))
 

@@ -1,7 +1,7 @@
 -- An accepted image without the field that names the entry, and the same image closed by one that names its last node: both say the same.
 use mathlib.Core.Path.{_≡_, sym, _∙_, ap, subst}
 use mathlib.Core.Bool.{false}
-use mathlib.Core.List.{List}
+use mathlib.Core.List.{List, _++_}
 use lib.ListN.{length, length-append}
 use native.Mathlib.Omega.{arith}
 use borrow.Author.Tests.{ne-eqb}
@@ -24,18 +24,18 @@ use Rattle.nodes.proofs.Reading.{node-unmoved}
 use Rattle.image.specs.Tasks.{startsOf}
 use Rattle.image.specs.Judged.{judged}
 use Rattle.image.specs.Conditions.{Complete, Ending, last, named, Accepting}
-use Rattle.image.specs.Closed.{entryField, WithoutEntry, closed}
+use Rattle.image.specs.Closed.{entryField, EndsInANode}
 use Rattle.image.specs.declared.Outline.{Outline}
 use Rattle.image.specs.declared.Verdict.the-variants.{Accepted}
 use Rattle.image.proofs.Reasons.{accepted-when}
 use Rattle.image.proofs.Sounds.{stand, entry-below}
 
-module _ (s : List ℕ) (k : Outline) (a : Accepting s k) (none : WithoutEntry s k) where
+module _ (s : List ℕ) (k : Outline) (a : Accepting s k) (none : EndsInANode s k) (m : ℕ) (last-node : k .nodes ≡ suc m) where
   abbrev n : ℕ
   n = k .nodes
 
   abbrev e : List ℕ
-  e = closed s k
+  e = s ++ entryField m
 
   -- the last node is the entry
   last-is : Ending s n (k .entry) → (tagAt s (n + 1) ≡ 8 → ⊥) × (n ≡ suc (k .entry))
@@ -54,12 +54,12 @@ module _ (s : List ℕ) (k : Outline) (a : Accepting s k) (none : WithoutEntry s
   good j l = stand s k a j l .0
 
   pub long : length e ≡ length s + 5
-  long = length-append s (entryField (n - 1))
+  long = length-append s (entryField m)
 
   -- ---- what stands in the image is as it was
 
-  agree : (p m : ℕ) → p + m ≤ length s → Agree s e p p m
-  agree p m l i q = ahead s (entryField (n - 1)) (p + i) (omega arith)
+  agree : (p j : ℕ) → p + j ≤ length s → Agree s e p p j
+  agree p j l i q = ahead s (entryField m) (p + i) (omega arith)
 
   heads : (j : ℕ) → j < n + 2 → Agree s e (fieldAt s j) (fieldAt s j) 3
   heads j l = agree (fieldAt s j) 3 (good-head s j (good j l))
@@ -81,7 +81,7 @@ module _ (s : List ℕ) (k : Outline) (a : Accepting s k) (none : WithoutEntry s
       rw (starts-many, place-same 1 (omega arith)) (agree-bytes s e (bodyAt s 1) (bodyAt s 1) (lengthAt s 1) (bodies 1 (omega arith)))
 
   node-same : (i : ℕ) → i < n → nodeAt e i ≡ nodeAt s i
-  node-same i l = node-unmoved s e i (λ j m. heads j (omega arith)) (good (i + 2) (omega arith)) (bodies (i + 2) (omega arith))
+  node-same i l = node-unmoved s e i (λ j q. heads j (omega arith)) (good (i + 2) (omega arith)) (bodies (i + 2) (omega arith))
 
   pub tree-same : treeAt e (k .entry) ≡ treeAt s (k .entry)
   tree-same =
@@ -94,8 +94,8 @@ module _ (s : List ℕ) (k : Outline) (a : Accepting s k) (none : WithoutEntry s
   here : fieldAt e (n + 2) ≡ length s
   here = place-same (n + 2) (omega arith) ∙ none
 
-  own : (i : ℕ) → byteAt e (fieldAt e (n + 2) + i) ≡ byteAt (entryField (n - 1)) i
-  own i = rw here (behind s (entryField (n - 1)) i)
+  own : (i : ℕ) → byteAt e (fieldAt e (n + 2) + i) ≡ byteAt (entryField m) i
+  own i = rw here (behind s (entryField m) i)
 
   tag : tagAt e (n + 2) ≡ 8
   tag = let z : fieldAt e (n + 2) + 0 ≡ fieldAt e (n + 2) = omega arith in rw z at (own 0)
@@ -104,7 +104,7 @@ module _ (s : List ℕ) (k : Outline) (a : Accepting s k) (none : WithoutEntry s
   unfolding wordAt
   two = let z : fieldAt e (n + 2) + 1 + 1 ≡ fieldAt e (n + 2) + 2 = omega arith in rw (z, own 1, own 2)
 
-  number : wordAt e (bodyAt e (n + 2)) ≡ n - 1
+  number : wordAt e (bodyAt e (n + 2)) ≡ m
   unfolding wordAt
   number = let z : fieldAt e (n + 2) + 3 + 1 ≡ fieldAt e (n + 2) + 4 = omega arith in rw (z, own 3, own 4) (omega arith)
 
@@ -119,7 +119,7 @@ module _ (s : List ℕ) (k : Outline) (a : Accepting s k) (none : WithoutEntry s
       let f : fieldAt e (n + 2) + 3 + lengthAt e (n + 2) ≤ length e = omega (arith, here, two, long) in (
         (((((omega arith, TagRule.entry (omega (arith, entry-is)) not-closed tag), RoomRule.entry tag), LengthRule.entry tag two), f), ValueRule.entry tag),
         record { children = λ lo hi. absurd (omega (arith, tag)); loop = λ q. absurd (omega (arith, tag)) },
-        λ t. omega (arith, number, entry-is),
+        λ t. omega (arith, number, last-node),
       )
 
   passed : Passed e (n + 2)
@@ -134,7 +134,7 @@ module _ (s : List ℕ) (k : Outline) (a : Accepting s k) (none : WithoutEntry s
   -- so the image is accepted, with the same outline
   accepting : Accepting e k
   accepting = record {
-    ending = named complete tag (omega (arith, number, entry-is));
+    ending = named complete tag (omega (arith, number, entry-is, last-node));
     shallow = rw tree-same (a .shallow);
     short = rw tree-same (a .short);
     period = a .period ∙ sym (ap (λ (b : Bus). b .period) said-same);

@@ -1,5 +1,5 @@
 -- How an image of good fields ends: what that says of its nodes and its entry, and how the scan ends there.
-use mathlib.Core.Path.{_≡_, refl, sym, _∙_, ap, subst}
+use mathlib.Core.Path.{_≡_, sym, _∙_, ap, subst}
 use mathlib.Core.List.{List}
 use Prim.Native.Nat.{ℕ, zero, suc, _+_, _-_, _≤_, _<_}
 use native.Mathlib.Omega.{arith}
@@ -8,9 +8,10 @@ use lib.Dec.{eqb}
 use borrow.Author.Tests.{ltb-true, ltb-false, le-ltb, eqb-true, eqb-false, eq-eqb, ne-eqb}
 use Rattle.runs.proofs.Cases.{by-cond}
 use Rattle.bytes.specs.Bytes.{wordAt}
-use Rattle.rows.specs.Rules.{LengthRule}
-use Rattle.rows.specs.Fields.{fieldAt, tagAt, lengthAt, bodyAt, closedAt, GoodField, Passed, Unclosed}
-use Rattle.rows.proofs.Kept.{good-length}
+use Rattle.rows.specs.Tests.{lengthOk}
+use Rattle.rows.specs.Fields.{fieldAt, tagAt, lengthAt, bodyAt, closedAt, GoodField, Passed}
+use Rattle.rows.specs.Unclosed.{Unclosed}
+use Rattle.rows.proofs.Rules.{tested}
 use Rattle.rows.proofs.Standing.{next-at, unclosed-below, unclosed-all}
 use Rattle.image.specs.Conditions.{Complete, Ending, last, named, Condition, no-node}
 use Rattle.image.specs.Judged.{endOf, scan}
@@ -19,32 +20,14 @@ use Rattle.image.specs.declared.fields.End.the-variants.{Stopped, Whole}
 use Rattle.image.proofs.Passing.{ends}
 
 module _ (s : List ℕ) where
-  -- a field behind another is where the last of so many stands
+  -- whether n fields have closed the image is a matter of the last one's tag
   closed-behind : (k n : ℕ) → n ≡ suc k → closedAt s n ≡ eqb (tagAt s k) 8
   closed-behind k n e = ap (closedAt s) e
 
   -- a field with tag 8 has a body of two bytes
-  two : (n : ℕ) → LengthRule 8 n → n ≡ 2
-  two n (LengthRule.entry e l) = l
-  two n (LengthRule.bus e l) = absurd (omega arith)
-  two n (LengthRule.starts e l h) = absurd (omega arith)
-  two n (LengthRule.plain e l) = absurd (omega arith)
-  two n (LengthRule.block e l) = absurd (omega arith)
-  two n (LengthRule.sequence e l h w) = absurd (omega arith)
-  two n (LengthRule.branch e l h w) = absurd (omega arith)
-  two n (LengthRule.loop e l) = absurd (omega arith)
-  two n (LengthRule.schedule e l h w) = absurd (omega arith)
-  two n (LengthRule.once e l) = absurd (omega arith)
-
   pub two-bytes : (k : ℕ) → GoodField s k → tagAt s k ≡ 8 → lengthAt s k ≡ 2
-  two-bytes k g e = two (lengthAt s k) (rw e at (good-length s k g))
-
-  -- so its number stands in the last two bytes of the image
-  number-at : (k n : ℕ) → n ≡ suc k → Complete s n → tagAt s k ≡ 8 → length s - 2 ≡ bodyAt s k
-  number-at k n q c e =
-      let m = two-bytes k (c .passed k (omega arith)) e in
-      let f : fieldAt s n ≡ fieldAt s (suc k) = ap (fieldAt s) q in
-      omega (arith, c .ends, f, next-at s k, m)
+  unfolding lengthOk
+  two-bytes k g e = eqb-true (lengthAt s k) 2 (rw e at (tested s k g .len))
 
   -- ---- of an image that so ends: n nodes stand in it, and the entry is one of them
   module _ (n entry : ℕ) where
@@ -76,7 +59,7 @@ module _ (s : List ℕ) where
         ∙ rw (closed-behind (n + 1) (n + 2) (omega arith), ne-eqb (tagAt s (n + 1)) 8 ne, le-ltb (n + 2) 3 (omega arith), x, y)
     whole-scan (named c t e) =
         let x : n + 3 - 3 ≡ n = omega arith in
-        let y = number-at (n + 2) (n + 3) (omega arith) c t in
+        let y : n + 3 - 1 ≡ n + 2 = omega arith in
         ends s (n + 3) c
         ∙ rw (closed-behind (n + 2) (n + 3) (omega arith), eq-eqb (tagAt s (n + 2)) 8 t, le-ltb (n + 3) 3 (omega arith), x, y, e)
 
@@ -96,8 +79,12 @@ module _ (s : List ℕ) where
       by-cond EndSays (eqb (tagAt s k) 8) _ _
       (λ t. let x : k ≡ suc k - 3 + 2 = omega arith in
       let y : suc k ≡ suc k - 3 + 3 = omega arith in
-      let is = eqb-true (tagAt s k) 8 t in
-      named (subst (Complete s) y c) (subst (λ (j : ℕ). tagAt s j ≡ 8) x is) (ap (wordAt s) (number-at k (suc k) refl c is ∙ ap (bodyAt s) x)))
+      let z : suc k - 1 ≡ suc k - 3 + 2 = omega arith in
+      named (subst (Complete s) y c) (subst (λ (j : ℕ). tagAt s j ≡ 8) x (eqb-true (tagAt s k) 8 t)) (ap (λ (j : ℕ). wordAt s (bodyAt s j)) z))
       (λ t. let x : k ≡ suc k - 2 + 1 = omega arith in
       let y : suc k ≡ suc k - 2 + 2 = omega arith in
       last (subst (Complete s) y c) (subst (λ (j : ℕ). tagAt s j ≡ 8 → ⊥) x (eqb-false (tagAt s k) 8 t)) (omega arith)))
+
+-- ends with the same nodes and entry
+pub same-nodes : (m a n b : ℕ) → Whole m a ≡ Whole n b → m ≡ n
+same-nodes m a n b e = cc

@@ -9,7 +9,8 @@ use native.Mathlib.Nat.{not-suc-le-zero}
 use native.Mathlib.Omega.{arith}
 use Prim.Native.Nat.{ℕ, zero, suc, _+_, _-_, _*_, _≤_}
 use Rattle.rows.specs.Rules.{TagRule, LengthRule, ChildRule}
-use Rattle.rows.specs.Fields.{fieldAt, tagAt, lengthAt, bodyAt, closedAt, GoodField, Unclosed}
+use Rattle.rows.specs.Fields.{fieldAt, tagAt, lengthAt, bodyAt, closedAt, GoodField}
+use Rattle.rows.specs.Unclosed.{Unclosed}
 use Rattle.image.specs.Conditions.{Accepting, longestImage}
 use Rattle.image.specs.declared.Outline.{Outline}
 use Rattle.image.proofs.Endings.{nodes-stand, entry-low, length-most}

@@ -21,7 +21,7 @@ use Rattle.image.specs.declared.Outline.{Outline}
 use Rattle.image.specs.declared.Verdict.{Verdict}
 use Rattle.image.specs.declared.Verdict.the-variants.{Accepted, Refused}
 use Rattle.rows.proofs.Standing.{unclosed-few}
-use Rattle.image.proofs.Endings.{whole-scan, nodes-stand}
+use Rattle.image.proofs.Endings.{whole-scan, nodes-stand, same-nodes}
 use Rattle.image.proofs.Reasons.{refused-when, when-refused, when-accepted}
 use Rattle.image.proofs.Sounds.{sound}
 
@@ -53,10 +53,7 @@ unfolding judged
 promise-whole s places n entry v e p w =
     let j : v ≡ judged s = rw e w in
     promise s places v j
-    (λ t q. subst (λ (m : ℕ). PlacedAll s m places) (same n entry (t .nodes) (t .entry) (sym e ∙ whole-scan s _ _ (when-accepted s t (sym j ∙ q) .ending))) p)
-  where
-    same : (m a n b : ℕ) → Whole m a ≡ Whole n b → m ≡ n
-    same m a n b e = cc
+    (λ t q. subst (λ (m : ℕ). PlacedAll s m places) (same-nodes n entry (t .nodes) (t .entry) (sym e ∙ whole-scan s _ _ (when-accepted s t (sym j ∙ q) .ending))) p)
 
 -- so an accepted image is sound
 pub judged-sound : (s places : List ℕ) (v : Verdict) (t : Outline) → Judging s v places → v ≡ Accepted t → Sound s t places

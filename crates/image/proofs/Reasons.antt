@@ -1,8 +1,8 @@
 -- Demand 1: an image is refused for a reason at a place if and only if the condition of that row of the table holds there, and accepted
 -- if and only if none holds. Each way follows the fields that are good before: the scan passes them, and the next test decides.
 use mathlib.Core.Path.{_≡_, refl, sym, _∙_, subst}
-use mathlib.Core.Logic.{_⊎_, inl, inr}
-use mathlib.Core.Bool.{false}
+use mathlib.Core.Logic.{_⊎_, inl, inr, ⊎-elim}
+use mathlib.Core.Bool.{true, false}
 use mathlib.Core.List.{List}
 use Prim.Native.Nat.{ℕ, _+_, _-_, _*_, _≤_, _<_}
 use native.Mathlib.Omega.{arith}
@@ -25,8 +25,9 @@ use Rattle.image.specs.declared.Outline.{Outline}
 use Rattle.image.specs.declared.Verdict.{Verdict}
 use Rattle.image.specs.declared.Verdict.the-variants.{Accepted, Refused}
 use Rattle.rows.proofs.Rules.{refused, tag-here, room-here, length-here, value-here, child-here, entry-here}
-use Rattle.rows.specs.Rules.{ValueRule}
-use Rattle.rows.proofs.Kept.{node-room}
+use Rattle.rows.specs.Rules.{EntryRule}
+use Rattle.rows.specs.Tests.{childrenOk}
+use Rattle.schedule.proofs.Numbers.{eq-or-ne}
 use Rattle.image.proofs.Passing.{stops, ends}
 use Rattle.image.proofs.Endings.{whole-scan, EndSays}
 use Rattle.image.proofs.Says.{VerdictSays, says, scan-says}
@@ -51,13 +52,16 @@ module _ (s : List ℕ) where
   body : (k : ℕ) → bodyAt s k + lengthAt s k ≤ length s → ltb (length s - fieldAt s k - 3) (lengthAt s k) ≡ false
   body k h = le-ltb (length s - fieldAt s k - 3) (lengthAt s k) (omega arith)
 
+  -- a field that breaks the rule of tag 8 has tag 8, and so no child numbers
+  childless : (k : ℕ) → (EntryRule s (tagAt s k) (bodyAt s k) (k - 2) → ⊥) → childrenOk s (tagAt s k) (bodyAt s k) (lengthAt s k) k ≡ true
+  unfolding childrenOk
+  childless k e = ⊎-elim (λ t. rw t) (λ ne. absurd (e (λ t. absurd (ne t)))) (eq-or-ne (tagAt s k) 8)
+
   pub refused-when : (r : Refusal) (place : ℕ) → Condition s r place → judged s ≡ Refused r place
   unfolding fieldOf wholeOf
   refused-when Cut _ (head-cut k p l h) = stopped k Cut p l (simp (lt-ltb (length s - fieldAt s k) 3 (omega arith)))
   refused-when Tag _ (wrong-tag k p h a) = stopped k Tag p (omega arith) (simp (head k h, refused _ (tag-here s k) a))
-  refused-when Full _ (one-more p (h, a) ne) =
-      stopped 258 Full p (omega arith)
-      (simp (head 258 h, tag-here s 258 .passes a, refused _ (room-here s 258) (λ r. let l = node-room 258 (tagAt s 258) ne r in omega arith)))
+  refused-when Full _ (one-more k p (h, a) r) = stopped k Full p (omega arith) (simp (head k h, tag-here s k .passes a, refused _ (room-here s k) r))
   refused-when Length _ (wrong-length k p ((h, a), r) n) =
       stopped k Length p (omega arith) (simp (head k h, tag-here s k .passes a, room-here s k .passes r, refused _ (length-here s k) n))
   refused-when Cut _ (body-cut k p (((h, a), r), n) c) =
@@ -69,11 +73,9 @@ module _ (s : List ℕ) where
   refused-when Forward _ (not-below k p (((((h, a), r), n), i), v) c) =
       stopped k Forward p (omega arith)
       (simp (head k h, tag-here s k .passes a, room-here s k .passes r, length-here s k .passes n, body k i, value-here s k (((h, a), r), n) .passes v, refused _ (child-here s k) c))
-  refused-when Entry _ (no-entry k p ((((h, a), r), n), i) t l) =
-      let v = value-here s k (((h, a), r), n) .passes (ValueRule.entry t) in
-      let c = child-here s k .passes (record { children = λ lo hi. absurd (omega arith); loop = λ e. absurd (omega arith) }) in
+  refused-when Entry _ (no-entry k p (((((h, a), r), n), i), v) e) =
       stopped k Entry p (omega arith)
-      (simp (head k h, tag-here s k .passes a, room-here s k .passes r, length-here s k .passes n, body k i, v, c, refused _ (entry-here s k) (λ e. let m = e t in omega arith)))
+      (simp (head k h, tag-here s k .passes a, room-here s k .passes r, length-here s k .passes n, body k i, value-here s k (((h, a), r), n) .passes v, childless k e, refused _ (entry-here s k) e))
   refused-when Unfinished _ (no-node n c h) = unfinished n c h
   refused-when Deep _ (too-deep n e x d) = whole n e x ∙ simp (lt-ltb 24 (depth (treeAt s e)) d)
   refused-when Long _ (too-long n e x d v) = whole n e x ∙ simp (le-ltb 24 (depth (treeAt s e)) d, lt-ltb 100000 (visits (treeAt s e)) v)
@@ -116,12 +118,12 @@ module _ (s : List ℕ) where
       own : {r′ : Refusal} {place′ : ℕ} → Condition s r′ place′ → (numberOf r′ ≤ 9) ⊎ ((numberOf r′ ≡ 11) ⊎ (numberOf r′ ≡ 18))
       own (head-cut k p l h) = inl (omega arith)
       own (wrong-tag k p h t) = inl (omega arith)
-      own (one-more p u ne) = inl (omega arith)
+      own (one-more k p u r) = inl (omega arith)
       own (wrong-length k p u l) = inl (omega arith)
       own (body-cut k p u b) = inl (omega arith)
       own (wrong-value k p u v) = inl (omega arith)
       own (not-below k p u c) = inl (omega arith)
-      own (no-entry k p u t l) = inr (inl refl)
+      own (no-entry k p u e) = inr (inl refl)
       own (no-node n c h) = inl (omega arith)
       own (too-deep n e c h) = inl (omega arith)
       own (too-long n e c h v) = inl (omega arith)

@@ -22,7 +22,7 @@ use Rattle.image.specs.declared.Outline.{Outline}
 use Rattle.image.specs.declared.Verdict.{Verdict}
 use Rattle.image.specs.declared.Verdict.the-variants.{Accepted, Refused}
 use Rattle.rows.proofs.Rules.{carries, value-here, child-here, entry-here}
-use Rattle.rows.proofs.Kept.{good-head, good-tag, good-length, good-body, good-value, first-open}
+use Rattle.rows.proofs.Kept.{good-head, good-tag, good-length, good-body, good-value, good-room, first-open}
 use Rattle.rows.proofs.Standing.{next-at, first-at}
 use Rattle.rows.proofs.Reading.{covers-more, agree-value, agree-children, agree-entry}
 use Rattle.nodes.proofs.Reading.{agree-node}
@@ -201,7 +201,8 @@ module _ (a c rest : List ℕ) (d : ℕ) (h : Instead a c rest d) where
       at r k (head-cut (suc k) (passed-moved (suc k) p) (omega (arith, place-moved k, long)) (omega (arith, place-moved k, long)))
   condition-moved r _ (wrong-tag zero p x f) = absurd (f (good-tag s 0 (h .good)))
   condition-moved r _ (wrong-tag (suc k) p x f) = at r k (wrong-tag (suc k) (passed-moved (suc k) p) (head-moved k x) (λ a. f (rw (tag-moved k, closed-moved k) at a)))
-  condition-moved r _ (one-more p u ne) = at r 257 (one-more (passed-moved 258 p) (tag-on 257 u) (λ t. ne (rw (tag-moved 257) at t)))
+  condition-moved r _ (one-more zero p u f) = absurd (f (good-room s 0 (h .good)))
+  condition-moved r _ (one-more (suc k) p u f) = at r k (one-more (suc k) (passed-moved (suc k) p) (tag-on k u) (λ x. f (rw (tag-moved k) at x)))
   condition-moved r _ (wrong-length zero p u f) = absurd (f (good-length s 0 (h .good)))
   condition-moved r _ (wrong-length (suc k) p u f) =
       at r k (wrong-length (suc k) (passed-moved (suc k) p) (room-on k u) (λ n. f (rw (tag-moved k, length-moved k) at n)))
@@ -215,10 +216,9 @@ module _ (a c rest : List ℕ) (d : ℕ) (h : Instead a c rest d) where
   condition-moved r _ (not-below zero p u f) = absurd (f (h .good .1))
   condition-moved r _ (not-below (suc k) p u f) =
       at r k (not-below (suc k) (passed-moved (suc k) p) (value-on k u) (λ c. f (carries (child-here e (suc k)) (child-here s (suc k)) (children-moved k) c)))
-  condition-moved r _ (no-entry zero p u t l) = absurd (first-open s (h .good) t)
-  condition-moved r _ (no-entry (suc k) p u t l) =
-      let b = bodyAt s (suc k) in
-      at r k (no-entry (suc k) (passed-moved (suc k) p) (body-on k u) (rw (tag-moved k) t) (rw (body-moved k, word-here s e b (b + d) 2 (body-agrees k 2) (omega arith)) l))
+  condition-moved r _ (no-entry zero p u f) = absurd (f (h .good .2))
+  condition-moved r _ (no-entry (suc k) p u f) =
+      at r k (no-entry (suc k) (passed-moved (suc k) p) (value-on k u) (λ x. f (carries (entry-here e (suc k)) (entry-here s (suc k)) (entry-moved k) x)))
   condition-moved r _ (no-node n x l) = rw long at (no-node n (complete-moved n x) l)
   condition-moved r _ (too-deep n i x l) = rw long at (too-deep n i (ending-moved n i x) (rw (tree-same i) l))
   condition-moved r _ (too-long n i x l m) = rw long at (too-long n i (ending-moved n i x) (rw (tree-same i) l) (rw (tree-same i) m))

@@ -1,6 +1,5 @@
 -- What a field, a scan and a verdict say: at each test either the condition of a row of the table holds, or judging goes on.
 use mathlib.Core.Path.{_≡_, refl, sym, subst}
-use mathlib.Core.Logic.{⊎-elim}
 use mathlib.Core.Bool.{not}
 use mathlib.Core.List.{List}
 use Prim.Native.Nat.{ℕ, zero, suc, _+_, _-_, _≤_, _<_}
@@ -11,7 +10,7 @@ use lib.Dec.{eqb, leb, ltb}
 use borrow.Author.Tests.{ltb-true, ltb-false, leb-true, leb-false, not-true, not-false}
 use Rattle.rows.specs.Tests.{tagOk, roomOk, lengthOk, valueOk, childrenOk, entryOk}
 use Rattle.image.specs.Judged.{fieldOf, onField, endOf, scanFrom, scan, wholeOf, onEnd, judged}
-use Rattle.rows.specs.Fields.{fieldAt, tagAt, lengthAt, bodyAt, closedAt, UpToTag, UpToBody, UpToValue, GoodField, Passed}
+use Rattle.rows.specs.Fields.{fieldAt, tagAt, lengthAt, bodyAt, closedAt, UpToTag, UpToValue, GoodField, Passed}
 use Rattle.runs.specs.Nodes.{depth, visits}
 use Rattle.nodes.specs.Nodes.{treeAt}
 use Rattle.image.specs.Conditions.{Ending, Condition, head-cut, wrong-tag, one-more, wrong-length, body-cut, wrong-value, not-below, no-entry, too-deep, too-long, too-wide, Accepting}
@@ -22,14 +21,10 @@ use Rattle.image.specs.declared.fields.End.{End}
 use Rattle.image.specs.declared.fields.End.the-variants.{Stopped, Whole}
 use Rattle.image.specs.declared.Verdict.{Verdict}
 use Rattle.image.specs.declared.Verdict.the-variants.{Accepted, Refused}
-use Rattle.runs.proofs.Cases.{split, either, by-cond}
-use Rattle.bytes.specs.Bytes.{wordAt}
-use Rattle.schedule.proofs.Numbers.{eq-or-ne}
-use Rattle.rows.specs.Rules.{RoomRule, EntryRule}
-use Rattle.rows.proofs.Kept.{later-tag}
+use Rattle.runs.proofs.Cases.{either, by-cond}
 use Rattle.image.proofs.Endings.{EndSays, end-says}
 use Rattle.rows.proofs.Rules.{fails, tag-here, room-here, length-here, value-here, child-here, entry-here}
-use Rattle.rows.proofs.Standing.{next-at, first-at, few, open-few, inside, passed-more}
+use Rattle.rows.proofs.Standing.{next-at, first-at, few, inside, passed-more}
 
 module _ (s : List ℕ) where
   -- of the field with k fields before it
@@ -59,7 +54,7 @@ module _ (s : List ℕ) where
       (λ e. judged-as k (Bad Tag) (rw (e1, e)) (wrong-tag k p h (fails _ (tag-here s k) (not-true _ e))))
       (λ e2. let u : UpToTag s k = (h, tag-here s k .holds (not-false _ e2)) in
       either (not (roomOk k t))
-      (λ e. judged-as k (Bad Full) (rw (e1, e2, e)) (full k p u (fails _ (room-here s k) (not-true _ e))))
+      (λ e. judged-as k (Bad Full) (rw (e1, e2, e)) (one-more k p u (fails _ (room-here s k) (not-true _ e))))
       (λ e3. let r = room-here s k .holds (not-false _ e3) in
       either (not (lengthOk t w))
       (λ e. judged-as k (Bad Length) (rw (e1, e2, e3, e)) (wrong-length k p (u, r) (fails _ (length-here s k) (not-true _ e))))
@@ -74,23 +69,8 @@ module _ (s : List ℕ) where
       either (not (childrenOk s t b w k))
       (λ e. judged-as k (Bad Forward) (rw (e1, e2, e3, e4, e5, e6, e)) (not-below k p v (fails _ (child-here s k) (not-true _ e))))
       (λ e7. either (not (entryOk s t b k))
-      (λ e. judged-as k (Bad Entry) (rw (e1, e2, e3, e4, e5, e6, e7, e)) (unnamed k p (((u, r), n), i) (fails _ (entry-here s k) (not-true _ e))))
+      (λ e. judged-as k (Bad Entry) (rw (e1, e2, e3, e4, e5, e6, e7, e)) (no-entry k p v (fails _ (entry-here s k) (not-true _ e))))
       (λ e8. judged-as k (Good (b + w)) (rw (e1, e2, e3, e4, e5, e6, e7, e8)) ((v, child-here s k .holds (not-false _ e7), entry-here s k .holds (not-false _ e8)), sym (next-at s k))))))))))
-    where
-      -- without room there are 258 fields before it
-      full : (k : ℕ) → Passed s k → UpToTag s k → (RoomRule k (tagAt s k) → ⊥) → Condition s Full (fieldAt s k)
-      full k p u f =
-          let m : 258 ≤ k = split 258 k (λ l. l) (λ l. absurd (f (RoomRule.node l))) in
-          let e : k ≡ 258 = omega (arith, open-few s k p (later-tag k (closedAt s k) (tagAt s k) (omega arith) (u .1))) in
-          subst (λ (k : ℕ). Passed s k → UpToTag s k → (tagAt s k ≡ 8 → ⊥) → Condition s Full (fieldAt s k)) (sym e) one-more p u (λ t. f (RoomRule.entry t))
-
-      -- a rule about tag 8 is broken with tag 8 alone
-      unnamed : (k : ℕ) → Passed s k → UpToBody s k → (EntryRule s (tagAt s k) (bodyAt s k) (k - 2) → ⊥) → Condition s Entry (fieldAt s k)
-      unnamed k p u f =
-          ⊎-elim
-          (λ t. no-entry k p u t (split (k - 2) (wordAt s (bodyAt s k)) (λ l. l) (λ l. absurd (f (λ e. l)))))
-          (λ ne. absurd (f (λ e. absurd (ne e))))
-          (eq-or-ne (tagAt s k) 8)
 
   on-field : (fuel k : ℕ) (j : Judgement) → (GoodField s k → EndSays s (scanFrom fuel s (fieldAt s (k + 1)) (k + 1) (eqb (tagAt s k) 8))) → FieldSays k j
       → EndSays s (onField (fieldAt s k) (λ next. scanFrom fuel s next (k + 1) (eqb (tagAt s k) 8)) j)

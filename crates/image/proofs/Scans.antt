@@ -10,18 +10,19 @@ use native.Mathlib.Omega.{arith}
 use lib.ListN.{length, getD, set, length-set, replicate, length-replicate}
 use lib.Seq.{getD-set-same, getD-set-other}
 use lib.Dec.{eqb, ltb}
-use borrow.Author.Tests.{eqb-false}
+use borrow.Author.Tests.{eqb-true, eqb-false}
 use Rattle.runs.proofs.Cases.{split, either}
 use Rattle.bytes.specs.Bytes.{byteAt, wordAt}
 use Rattle.image.specs.Judged.{fieldOf, endOf}
-use Rattle.rows.specs.Fields.{fieldAt, tagAt, closedAt, GoodField, Passed}
+use Rattle.rows.specs.Fields.{fieldAt, tagAt, bodyAt, closedAt, GoodField, Passed}
 use Rattle.image.specs.Inner.{PlacedAll, Scanned}
 use Rattle.refusals.specs.declared.Refusal.{Refusal}
 use Rattle.image.specs.declared.fields.Judgement.the-variants.{Good, Bad}
 use Rattle.image.specs.declared.fields.End.{End}
 use Rattle.image.specs.declared.fields.End.the-variants.{Stopped, Whole}
-use Rattle.rows.proofs.Kept.{good-head, good-tag, good-room, node-room, later-tag}
-use Rattle.rows.proofs.Standing.{first-at, inside, passed-more}
+use Rattle.rows.proofs.Kept.{good-tag, good-room, node-room, later-tag}
+use Rattle.rows.proofs.Standing.{next-at, first-at, inside, passed-more}
+use Rattle.image.proofs.Endings.{two-bytes, same-nodes}
 use Rattle.image.proofs.Passing.{stops, ends}
 use Rattle.image.proofs.Says.{FieldSays, field-says}
 
@@ -123,25 +124,24 @@ module _ (s places : List ℕ) (index at : ℕ) (closed : Bool) (h : Here s plac
         placed = λ n x q. absurd (let z : _≡_ {A = ℕ} 0 1 = cc in omega arith);
       }
 
-  -- a field with tag 8 has a head and more
-  pub here-two : closed ≡ true → 2 ≤ length s
-  here-two t = let c = sym (h .last) ∙ t in by index (h .passed) c
+  -- at the image's end a field that has closed it is its last five bytes
+  pub here-five : length s ≤ at → closed ≡ true → fieldAt s (index - 1) + 5 ≡ length s
+  here-five l t = let e : at ≡ length s = omega (arith, h .place, inside s index (h .passed)) in by index (h .passed) (sym (h .last) ∙ t) (sym (h .place) ∙ e)
     where
-      by : (k : ℕ) → Passed s k → closedAt s k ≡ true → 2 ≤ length s
-      by zero p c = absurd (let z : _≡_ {A = ℕ} 0 1 = cc in omega arith)
-      by (suc k) p c = omega (arith, good-head s k (p k (omega arith)))
-
-  same-count : (m a n b : ℕ) → Whole m a ≡ Whole n b → m ≡ n
-  same-count m a n b e = cc
+      by : (k : ℕ) → Passed s k → closedAt s k ≡ true → fieldAt s k ≡ length s → fieldAt s (k - 1) + 5 ≡ length s
+      by zero p c e = absurd (let z : _≡_ {A = ℕ} 0 1 = cc in omega arith)
+      by (suc k) p c e =
+          let z : suc k - 1 ≡ k = omega arith in
+          rw z (omega (arith, e, next-at s k, two-bytes s k (p k (omega arith)) (eqb-true (tagAt s k) 8 c)))
 
   -- the end has as many nodes as are stored
   as-many : (c : Bool) (n x : ℕ) → endOf s index c ≡ Whole n x → nodesOf index c ≡ n
   unfolding endOf
   as-many c n x e = either (ltb index 3) (λ t. absurd (let f = rw t at e in let z : _≡_ {A = ℕ} 0 1 = cc in omega arith)) (λ t. by c (rw t at e))
     where
-      by : (c : Bool) → cond c (Whole (index - 3) (wordAt s (length s - 2))) (Whole (index - 2) (index - 3)) ≡ Whole n x → nodesOf index c ≡ n
-      by true q = same-count _ _ n x q
-      by false q = same-count _ _ n x q
+      by : (c : Bool) → cond c (Whole (index - 3) (wordAt s (bodyAt s (index - 1)))) (Whole (index - 2) (index - 3)) ≡ Whole n x → nodesOf index c ≡ n
+      by true q = same-nodes _ _ n x q
+      by false q = same-nodes _ _ n x q
 
   pub here-whole : length s ≤ at → (r : End) → r ≡ endOf s index closed → Scanned s r places
   here-whole l r e =

@@ -12,7 +12,8 @@ use Rattle.runs.specs.Exact.{InRange, ValidTask}
 use Rattle.runs.proofs.Unlined.{exit-exact}
 use Rattle.bytes.specs.Bytes.{byteAt}
 use Rattle.schedule.specs.Said.{said, Ranged}
-use Rattle.rows.specs.Fields.{fieldAt, lengthAt, bodyAt, GoodField, Unclosed}
+use Rattle.rows.specs.Fields.{fieldAt, lengthAt, bodyAt, GoodField}
+use Rattle.rows.specs.Unclosed.{Unclosed}
 use Rattle.nodes.specs.Nodes.{nodeOf, meant, nodeAt}
 use Rattle.image.specs.Tasks.{startsOf, taskOf}
 use Rattle.image.specs.Judged.{judged}

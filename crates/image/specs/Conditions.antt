@@ -9,7 +9,7 @@ use lib.ListN.{length}
 use Rattle.runs.specs.Lines.{power}
 use Rattle.runs.specs.Nodes.{depth, visits}
 use Rattle.schedule.specs.Said.{said}
-use Rattle.rows.specs.Rules.{TagRule, LengthRule, ValueRule, ChildRule}
+use Rattle.rows.specs.Rules.{TagRule, RoomRule, LengthRule, ValueRule, ChildRule, EntryRule}
 use Rattle.rows.specs.Fields.{fieldAt, tagAt, lengthAt, bodyAt, closedAt, UpToHead, UpToTag, UpToRoom, UpToLength, UpToBody, UpToValue, Passed}
 use Rattle.nodes.specs.Nodes.{linesOf, treeAt}
 use Rattle.image.specs.declared.Outline.{Outline}
@@ -32,8 +32,8 @@ pub data Condition (s : List ℕ) : Refusal → ℕ → Type 0 where
   head-cut : (k : ℕ) → Passed s k → fieldAt s k < length s → length s < fieldAt s k + 3 → Condition s Cut (fieldAt s k)
   -- 2: "the first field's tag is not 1, the second's not 2, or a later one's not 3 to 7", nor 8 of W1, 9 of W5 and 10 of W9
   wrong-tag : (k : ℕ) → Passed s k → UpToHead s k → (TagRule k (closedAt s k) (tagAt s k) → ⊥) → Condition s Tag (fieldAt s k)
-  -- 3: "a 257th node field", which has 258 fields before it; one with tag 8 is no node's
-  one-more : Passed s 258 → UpToTag s 258 → (tagAt s 258 ≡ 8 → ⊥) → Condition s Full (fieldAt s 258)
+  -- 3: "a 257th node field"
+  one-more : (k : ℕ) → Passed s k → UpToTag s k → (RoomRule k (tagAt s k) → ⊥) → Condition s Full (fieldAt s k)
   -- 4: "body length not in the tag's row"
   wrong-length : (k : ℕ) → Passed s k → UpToRoom s k → (LengthRule (tagAt s k) (lengthAt s k) → ⊥) → Condition s Length (fieldAt s k)
   -- 1: "fewer bytes left than its length for its body"
@@ -43,7 +43,7 @@ pub data Condition (s : List ℕ) : Refusal → ℕ → Type 0 where
   -- 6: "a child number not below the node's own"
   not-below : (k : ℕ) → Passed s k → UpToValue s k → (ChildRule s (tagAt s k) (bodyAt s k) (lengthAt s k) (k - 2) → ⊥) → Condition s Forward (fieldAt s k)
   -- 11 (W1): "the number in tag 8 is not that of a node, judged and placed in that field as 5 is"; k - 2 nodes stand before it
-  no-entry : (k : ℕ) → Passed s k → UpToBody s k → tagAt s k ≡ 8 → k - 2 ≤ wordAt s (bodyAt s k) → Condition s Entry (fieldAt s k)
+  no-entry : (k : ℕ) → Passed s k → UpToValue s k → (EntryRule s (tagAt s k) (bodyAt s k) (k - 2) → ⊥) → Condition s Entry (fieldAt s k)
   -- 7: "the image ends, between fields, before a node field"
   no-node : (n : ℕ) → Complete s n → n < 3 → Condition s Unfinished (length s)
   -- 8: "entry's depth above 24", of an image of n nodes

@@ -11,7 +11,7 @@ use Rattle.runs.specs.Runs.{Task}
 use Rattle.bytes.specs.Bytes.{byteAt, wordAt}
 use Rattle.schedule.specs.Said.{said}
 use Rattle.rows.specs.Tests.{tagOk, roomOk, lengthOk, valueOk, childrenOk, entryOk}
-use Rattle.rows.specs.Fields.{fieldAt}
+use Rattle.rows.specs.Fields.{fieldAt, bodyAt}
 use Rattle.nodes.specs.Nodes.{treeAt, linesOf}
 use Rattle.image.specs.Tasks.{taskOf}
 use Rattle.refusals.specs.declared.Refusal.the-variants.{Cut, Tag, Full, Length, Value, Forward, Unfinished, Deep, Long, Entry, Lines}
@@ -43,11 +43,11 @@ onField at on (Good next) = on next
 onField at on (Bad r) = Stopped r at
 
 -- "Then 7": an image of `index` good fields ends before a node field, or it has nodes, of which the last is the entry, or with W1 the one that the field
--- closing it names, in the image's last two bytes
+-- closing it names
 unfoldable pub endOf : List ℕ → ℕ → Bool → End
 endOf s index closed =
     cond (ltb index 3) (Stopped Unfinished (length s))
-    (cond closed (Whole (index - 3) (wordAt s (length s - 2))) (Whole (index - 2) (index - 3)))
+    (cond closed (Whole (index - 3) (wordAt s (bodyAt s (index - 1)))) (Whole (index - 2) (index - 3)))
 
 -- "Fields are judged from the front": from a place on, `index` fields standing before it, the first that is refused or the end.
 -- `fuel` is more than the fields that may still come: a 260th is refused, so it never runs out (`scan-says` of proofs/Says.antt).

@@ -5,8 +5,9 @@
 // there; and of an accepted image every field keeps the rules of its row, the outline is what they say, and beside the verdict stand the
 // places of its nodes. For a refused image the places are left free. The list of refusals is crate refusals.
 //
-// specs/ has the definitions, in the document's order: Tasks (the task that an image's bytes say), Judged (a field, the scan, 7 to 9 and 18, and the
-// verdict), Conditions (the table, row by row), Promise; Inner is between functions of this crate. The rows' rules are in crate rows, what a node field means
+// specs/ has the definitions, in the document's order: Tasks (the task that an image's bytes say), Judged (a field, the scan and 7, 8, 9 and 18, and the
+// verdict), Conditions (the table, row by row), Promise; Moved and Closed are for laws about two images, Walks is for the layers above, and Inner between
+// functions of this crate. The rows' rules are in crate rows, what a node field means
 // to crate `runs` in crate nodes, field 1's rules in crate schedule.
 // src/: fields (one field, and the scan), and the verdict here.
 ghost use mathlib.Core.Path.{_≡_};

@@ -8,7 +8,7 @@ use Rattle.runs.proofs.Cases.{split}
 use Rattle.runs.specs.Lines.{power}
 use Rattle.runs.specs.Nodes.{nodeLines, linesTo}
 use Rattle.nodes.specs.Nodes.{meant, nodeAt, linesOf}
-use Rattle.rows.specs.Fields.{Unclosed}
+use Rattle.rows.specs.Unclosed.{Unclosed}
 use Rattle.nodes.specs.Fine.{Fine}
 use Rattle.nodes.specs.declared.Node.{Node}
 use Rattle.nodes.specs.declared.Node.the-variants.{Plain, Bus as Block, Once, Sequence, Branch, Loop}

@@ -10,7 +10,8 @@ use borrow.Author.Count.{below-more}
 use Rattle.runs.specs.Nodes.{trees, treeBy, Children as Named, depth, deepest, visits, visitsAll}
 use Rattle.runs.proofs.Trees.{tree-is}
 use Rattle.bytes.specs.Bytes.{wordAt}
-use Rattle.rows.specs.Fields.{fieldAt, Unclosed}
+use Rattle.rows.specs.Fields.{fieldAt}
+use Rattle.rows.specs.Unclosed.{Unclosed}
 use Rattle.nodes.specs.Nodes.{nodeOf, meant, nodeAt, treeAt, childTrees}
 use Rattle.nodes.specs.Fine.{Fine, Standing}
 use Rattle.nodes.specs.Weights.{Holds}

@@ -4,7 +4,8 @@ use mathlib.Core.List.{List}
 use Prim.Native.Nat.{ℕ, _+_, _*_, _≤_, _<_}
 use lib.ListN.{length, getD}
 use Rattle.schedule.specs.Said.{said}
-use Rattle.rows.specs.Fields.{fieldAt, Unclosed}
+use Rattle.rows.specs.Fields.{fieldAt}
+use Rattle.rows.specs.Unclosed.{Unclosed}
 use Rattle.rows.specs.Rules.{Durations, Accesses, LoopCounts, Fetches, NamesBelow}
 use Rattle.nodes.specs.declared.Node.{Node}
 use Rattle.nodes.specs.declared.Node.the-variants.{Plain, Bus as Block, Once, Sequence, Branch, Loop}

@@ -4,7 +4,7 @@ ghost use Prim.Native.Nat.{ℕ, _+_, _≤_};
 ghost use Rattle.runs.specs.Lines.{power as powerOf};
 ghost use Rattle.runs.specs.Nodes.{nodeLines};
 ghost use Rattle.nodes.specs.Nodes.{meant, nodeOf, linesOf};
-ghost use Rattle.rows.specs.Fields.{Unclosed};
+ghost use Rattle.rows.specs.Unclosed.{Unclosed};
 ghost use Rattle.nodes.specs.Fine.{Standing, Placed};
 use crate::Node;
 use crate::node_at;

@@ -2,7 +2,7 @@
 // held as the limit and one more, which decides the same and never overflows.
 ghost use mathlib.Core.Path.{_≡_};
 ghost use Prim.Native.Nat.{_+_, _-_, _*_, _≤_, _<_, min, max};
-ghost use Rattle.rows.specs.Fields.{Unclosed};
+ghost use Rattle.rows.specs.Unclosed.{Unclosed};
 ghost use Rattle.rows.specs.Rules.{NamesBelow};
 ghost use Rattle.nodes.specs.Fine.{Standing, Placed};
 ghost use Rattle.nodes.specs.Weights.{Weighed, Together, Weighs};

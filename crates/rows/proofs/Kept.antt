@@ -48,19 +48,10 @@ node-tag own c t ne (TagRule.entry i o e) = absurd (ne e)
 
 -- there are at most 256
 pub node-room : (k t : ℕ) → (t ≡ 8 → ⊥) → RoomRule k t → k < 258
-node-room k t ne (RoomRule.node l) = l
+node-room k t ne (RoomRule.room l) = l
 node-room k t ne (RoomRule.entry e) = absurd (ne e)
 
--- one that closes the image stands behind at least one node, and behind none that closes it
-pub entry-tag : (k : ℕ) (c : Bool) (t : ℕ) → t ≡ 8 → TagRule k c t → (3 ≤ k) × (c ≡ false)
-entry-tag k c t is (TagRule.bus i e) = absurd (omega arith)
-entry-tag k c t is (TagRule.schedule i e) = absurd (omega arith)
-entry-tag k c t is (TagRule.starts i e) = absurd (omega arith)
-entry-tag k c t is (TagRule.node i o lo hi) = absurd (omega arith)
-entry-tag k c t is (TagRule.once i o e) = absurd (omega arith)
-entry-tag k c t is (TagRule.entry i o e) = (i, o)
-
--- from field 2 on no field stands behind such a one
+-- behind field 2 no field stands behind one that closes the image
 pub later-tag : (k : ℕ) (c : Bool) (t : ℕ) → 2 ≤ k → TagRule k c t → c ≡ false
 later-tag k c t l (TagRule.bus i e) = absurd (omega arith)
 later-tag k c t l (TagRule.schedule i e) = absurd (omega arith)

@@ -91,11 +91,11 @@ tag-rule index closed tag = record { holds = tag-holds index closed tag; passes 
 
 room-holds : (index tag : ℕ) → roomOk index tag ≡ true → RoomRule index tag
 unfolding roomOk
-room-holds index tag = row (ltb index 258) _ _ (λ l e. RoomRule.node (ltb-true index 258 l)) (λ m t. RoomRule.entry (eqb-true tag 8 t))
+room-holds index tag = row (ltb index 258) _ _ (λ l e. RoomRule.room (ltb-true index 258 l)) (λ m t. RoomRule.entry (eqb-true tag 8 t))
 
 room-passes : (index tag : ℕ) → RoomRule index tag → roomOk index tag ≡ true
 unfolding roomOk
-room-passes index tag (RoomRule.node l) = rw (lt-ltb index 258 l)
+room-passes index tag (RoomRule.room l) = rw (lt-ltb index 258 l)
 room-passes index tag (RoomRule.entry t) = rows (ltb index 258) _ _ (λ l. refl) (λ m. eq-eqb tag 8 t)
 
 pub room-rule : (index tag : ℕ) → Decides (roomOk index tag) (RoomRule index tag)
@@ -311,14 +311,14 @@ module _ (s : List ℕ) (k : ℕ) where
   entry-here = entry-rule s (tagAt s k) (bodyAt s k) k
 
   pub tested : GoodField s k → Tested s k
-  tested ((((((head, tag), room), len), body), value), children, entry) =
+  tested ((((((head, tag), fits), len), body), value), children, entry) =
       record {
         head = head;
         tag = tag-here .passes tag;
-        room = room-here .passes room;
+        room = room-here .passes fits;
         len = length-here .passes len;
         body = body;
-        value = value-here (((head, tag), room), len) .passes value;
+        value = value-here (((head, tag), fits), len) .passes value;
         children = child-here .passes children;
         entry = entry-here .passes entry;
       }

@@ -8,7 +8,8 @@ use native.Mathlib.Omega.{arith}
 use lib.ListN.{length}
 use borrow.Author.Count.{below-more}
 use borrow.Author.Tests.{eqb-false}
-use Rattle.rows.specs.Fields.{fieldAt, tagAt, lengthAt, closedAt, GoodField, Passed, Unclosed}
+use Rattle.rows.specs.Fields.{fieldAt, tagAt, lengthAt, closedAt, GoodField, Passed}
+use Rattle.rows.specs.Unclosed.{Unclosed}
 use Rattle.rows.proofs.Kept.{good-tag, good-room, good-body, node-room, later-tag, first-open}
 
 module _ (s : List ℕ) where
@@ -55,10 +56,6 @@ module _ (s : List ℕ) where
   pub unclosed-few : (n : ℕ) → Unclosed s n → n ≤ 258
   unclosed-few zero p = omega arith
   unclosed-few (suc n) p = let (g, ne) = p n (omega arith) in omega (arith, node-room n (tagAt s n) ne (good-room s n g))
-
-  pub open-few : (n : ℕ) → Passed s n → closedAt s n ≡ false → n ≤ 258
-  open-few zero p e = omega arith
-  open-few (suc n) p e = unclosed-few (suc n) (unclosed-all n p (eqb-false (tagAt s n) 8 e))
 
   pub few : (n : ℕ) → Passed s n → n ≤ 259
   few zero p = omega arith

@@ -1,5 +1,4 @@
 -- A field of an image: where it stands, and how far it is good. Definitions only.
-use mathlib.Core.Path.{_≡_}
 use mathlib.Core.Bool.{Bool, false}
 use mathlib.Core.List.{List}
 use Prim.Native.Nat.{ℕ, zero, suc, _+_, _-_, _≤_, _<_}
@@ -56,7 +55,3 @@ GoodField s k = UpToValue s k × ChildRule s (tagAt s k) (bodyAt s k) (lengthAt 
 -- the n fields from the front are good
 abbrev pub Passed : List ℕ → ℕ → Type 0
 Passed s n = (k : ℕ) → k < n → GoodField s k
-
--- and none of them has closed it: from field 2 on they are nodes
-abbrev pub Unclosed : List ℕ → ℕ → Type 0
-Unclosed s n = (k : ℕ) → k < n → GoodField s k × (tagAt s k ≡ 8 → ⊥)

@@ -1,3 +1,4 @@
 pub mod Rules
 pub mod Tests
 pub mod Fields
+pub mod Unclosed

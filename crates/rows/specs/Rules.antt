@@ -23,7 +23,7 @@ pub data TagRule (index : ℕ) (closed : Bool) (tag : ℕ) : Type 0 where
 
 -- 3: no "257th node field", which would have 258 fields before it; one with tag 8 is no node's
 pub data RoomRule (index tag : ℕ) : Type 0 where
-  node : index < 258 → RoomRule index tag
+  room : index < 258 → RoomRule index tag
   entry : tag ≡ 8 → RoomRule index tag
 
 abbrev pub IsEven : ℕ → Type 0

@@ -246,8 +246,8 @@ pub fn entry_ok(image: &[u8], tag: usize, body: usize, index: usize) -> bool
     requires { ⌜ body + 6 < 18446744073709551615 ⌝ }
     ensures { λ r. ⌜ r ≡ entryOk (now (image .entry)) tag body index ⌝ }
 {
-    if tag == 8 {
-        return word(image, body) + 2 < index;
+    match tag {
+        8 => word(image, body) + 2 < index,
+        _ => true,
     }
-    true
 }

@@ -56,20 +56,25 @@ lines-requires c κs =
     let low = entry-low (a .image .now) (a .nodes) (a .entry) (start .pre .0) in
     (unclosed-fewer _ _ (a .nodes + 2) (omega arith) (nodes-stand _ _ _ (start .pre .0)), λ k l. start .pre .1 k (omega arith))
 
--- at most 4 lines
-few-lines : (s : List ℕ) (n entry : ℕ) → Ending s n entry → linesOf s n ≤ 4
-few-lines s n entry h = lines-few s n (nodes-stand s n entry h)
+-- at most 4 lines, of however many of the nodes
+few-lines : (s : List ℕ) (m n entry : ℕ) → m ≤ n → Ending s n entry → linesOf s m ≤ 4
+few-lines s m n entry l h = lines-few s m (unclosed-fewer s (m + 2) (n + 2) (omega arith) (nodes-stand s n entry h))
+
+few-rows : (s : List ℕ) (m n entry : ℕ) → m ≤ n → Ending s n entry → power (linesOf s m) ≤ 4294967295
+few-rows s m n entry l h = omega (arith, few-sets (linesOf s m) (few-lines s m n entry l h))
 
 power-requires : tie.Need-power-requires
 power-requires c κs =
     let start = c .before .before .before .before .before .before .before .before in
-    omega (arith, c .lines .ensures, few-lines _ _ _ (start .pre .0))
+    let low = entry-low _ _ _ (start .pre .0) in
+    rw (c .lines .ensures) (few-lines _ _ _ _ (omega arith) (start .pre .0))
 
 mul-if3 : tie.Need-mul-if3
 mul-if3 c =
     let start = c .before .before .before .before .before .before .before .before .before in
-    let most = few-sets _ (few-lines _ _ _ (start .pre .0)) in
-    product-fits _ _ (omega (arith, c .before .before .period-at .ensures .1)) (omega (arith, c .power .ensures ∙ ap power (c .before .lines .ensures), most))
+    let low = entry-low _ _ _ (start .pre .0) in
+    product-fits _ _ (omega (arith, c .before .before .period-at .ensures .1))
+    (rw (c .power .ensures, c .before .lines .ensures) (few-rows _ _ _ _ (omega arith) (start .pre .0)))
 
 returns-3 : tie.Need-returns-3
 unfolding wholeOf

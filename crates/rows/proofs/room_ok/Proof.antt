@@ -6,11 +6,11 @@ use borrow.Author.Tests.{lt-ltb, le-ltb}
 
 returns : tie.Need-returns
 unfolding roomOk
-returns c = simp (lt-ltb _ 258 (c .if1 .taken))
+returns c = simp (lt-ltb _ _ (c .if1 .taken))
 
 returns-2 : tie.Need-returns-2
 unfolding roomOk
-returns-2 c = simp (le-ltb _ 258 (c .if1 .left))
+returns-2 c = simp (le-ltb _ _ (c .if1 .left))
 
 pub room-ok-spec : {M : Type 1} → statement M
 room-ok-spec = tie.close (tie.spec returns returns-2)

@@ -4,7 +4,7 @@ use Rattle.image.proofs.fields.fields.Statement.{statement}
 use Rattle.image.proofs.fields.fields.Tie as tie
 use Rattle.rows.proofs.Standing.{next-at, few}
 use Rattle.rows.proofs.Kept.{good-body, first-fine}
-use Rattle.image.proofs.Scans.{Here, here-first, here-good, here-closed, here-room, here-node, here-front, here-stopped, here-whole, here-two}
+use Rattle.image.proofs.Scans.{Here, here-first, here-good, here-closed, here-room, here-node, here-front, here-stopped, here-whole, here-five}
 use mathlib.Core.Path.{sym, _∙_}
 use mathlib.Core.Logic.{⊎-elim}
 use Prim.Native.Nat.{_-_, _<_}
@@ -73,7 +73,7 @@ loop-again c =
     (c .if1 .came)
 
 ended-requires : tie.Need-ended-requires Inv-loop μ-loop
-ended-requires c κs = here-two _ _ _ _ _ (c .before .loop .inv)
+ended-requires c κs = here-five _ _ _ _ _ (c .before .loop .inv) (omega arith)
 
 returns-2 : tie.Need-returns-2 Inv-loop μ-loop
 returns-2 c = here-whole _ _ _ _ _ (c .before .before .loop .inv) (omega arith) _ (c .ended .ensures)
