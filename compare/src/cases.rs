@@ -1054,9 +1054,9 @@ pub fn worked_entries(cases: &mut Cases) {
             let image = [field_1, starts(from), nodes.concat(), entry(named)].concat();
             cases.add("worked entries", image, listing(figures, exits));
         };
-    // each node of one image, from {4}. A2: a wait of 6, 2 after 8. Plain 3: 7 after 3. A branch of both. "Loop over A2, counts 1 to 3, from
-    // {4}: 2 after 18, 4 after 10". A2 and then plain 3: 5 after 11. Plain 3 and then the loop: from 7 a wait of 3, 2 after 8, 4 after 10, 2
-    // after 18.
+    // each node of one image, from {4}. A2: a wait of 6, 2 after 8. Plain 3: 7 after 3. A branch of both. "Loop over A2, counts 1 to 3,
+    // from {4}: 2 after 18, 4 after 10". A2 and then plain 3: 5 after 11. Plain 3 and then the loop: from 7 a wait of 3, 2 after 8, 4 after
+    // 10, 2 after 18.
     let nodes = [a2(), plain(3, 3), branch(&[0, 1]), looped(1, 3, 0), sequence(&[0, 1]), sequence(&[1, 3]), plain(7, 7)];
     task(small_bus(), &[4], (&nodes, 0), (8, 8), &[(2, 8)]);
     task(small_bus(), &[4], (&nodes, 1), (3, 3), &[(7, 3)]);
@@ -1425,9 +1425,9 @@ pub fn longest_schedule() -> Vec<u8> {
     schedule(5, &pairs)
 }
 
-/// A bus with a period of 256, all starts, a block, 255 sequences of 16 children, the last of this child: 9,260 bytes with the longest field
-/// 1 and the longest block; with tag 1 it has 9,198, with a plain block one less. "document 01's longest valid image" has 5 more, those of
-/// tag 8.
+/// A bus with a period of 256, all starts, a block, 255 sequences of 16 children, the last of this child: 9,260 bytes with the longest
+/// field 1 and the longest block; with tag 1 it has 9,198, with a plain block one less. "document 01's longest valid image" has 5 more,
+/// those of tag 8.
 pub fn longest_image(field_1: Vec<u8>, block: Vec<u8>, child: u16) -> Vec<u8> {
     let all: Vec<u8> = (0..=255).collect();
     let mut image = [field_1, starts(&all), block].concat();
