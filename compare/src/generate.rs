@@ -744,6 +744,9 @@ fn loose_schedule(random: &mut Random) -> Vec<u8> {
     let duration = (near + random.below(3)).clamp(1, 255) as u8;
     let block = if random.once_in(2) { bus_block(2, 1, duration) } else { fetch(0, duration, duration, 1) };
     let mut image = [field_1, starts(&[random.below(period) as u8]), block, plain(1, 2), sequence(&[1, 0, 1, 0])].concat();
+    if random.once_in(4) {
+        image.extend(random_entry(random, 3));
+    }
     if random.once_in(10) {
         image[2] = image[2].wrapping_add(random.from(254, 258) as u8);
     }
@@ -791,6 +794,14 @@ pub fn all(seed: u64, wanted: usize) -> Vec<Case> {
         let (image, task) = valid_task(&mut random, &SMALL);
         if task.nodes.len() >= 4 {
             models.push(image);
+        }
+    }
+    // every third of them has tag 8
+    for model in models.iter_mut().step_by(3).filter(|model| !has_entry(model)) {
+        let nodes = field_places(model).len() as u64 - 3;
+        let closed = [&model[..], &random_entry(&mut random, nodes)].concat();
+        if judge(&closed).is_ok() && work(&closed) <= MOST_WORK {
+            *model = closed;
         }
     }
     let spread = models.len() / 16 + 1;
