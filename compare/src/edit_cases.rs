@@ -286,6 +286,13 @@ fn broken() -> Vec<(u64, Vec<u8>)> {
 pub fn order(edits: &mut Edits) {
     let bad = [(1, 0), (0, 64), (65_535, 65_536), (LARGEST, LARGEST), (BITS_16 + 1, BITS_16 + 2), (LARGEST - 10, 5)];
     let absent = [9, 10, 255, 256, BITS_16, BITS_32, LARGEST];
+    // 11 at its field
+    let place = every_kind().len() as u64;
+    for (number, node) in [9, 10, 256, 65_535].into_iter().flat_map(|number| [0, 1, 9].map(|node| (number, node))) {
+        let image = [every_kind(), entry(number)].concat();
+        edits.add("order of refusals", edit(&image, node, (1, 2), 10), Line(refused_line(&image, 11, place)));
+        edits.add("order of refusals", edit(&image, node, (2, 1), 0), Line(refused_line(&image, 11, place)));
+    }
     for (number, image) in broken() {
         for node in [0, 1, 2, 7, 8, 9, 256, LARGEST] {
             for durations in [(1, 2), (1, 0), (0, 64), (5, 65_536), (LARGEST, LARGEST)] {
