@@ -825,7 +825,7 @@ pub fn number_of_lines(cases: &mut Cases) {
         for number in 0..4u8 {
             let block = || fetch(number, 1, 1, 2);
             let lower = || fetch(0, 1, 1, 3);
-            // alone; behind and before a lower line; not reached; not executed; in an arm; in every node
+            // alone; behind and before a lower line; not reached; not executed; in an arm; in every node; above the entry
             let all = [
                 block(),
                 [lower(), block(), sequence(&[0, 1])].concat(),
@@ -836,16 +836,9 @@ pub fn number_of_lines(cases: &mut Cases) {
                 [block(), plain(1, 1), branch(&[0, 1]), sequence(&[2, 2])].concat(),
                 [(0..=number).flat_map(|line| fetch(line, 1, 1, 2)).collect(), looped(1, 2, number.into())].concat(),
                 [block().repeat(5), sequence(&[4, 3, 2, 1, 0])].concat(),
+                [lower(), block(), sequence(&[0, 1]), entry(0)].concat(),
             ];
             for nodes in all {
-                let image = [opening.clone(), nodes].concat();
-                let refused = line(&format!("refused 18 {}", image.len()));
-                add(image, if u32::from(number) < most { Accepted } else { refused });
-            }
-            // above the entry, alone and above a lower line
-            for nodes in
-                [[bus_block(2, 1, 1), block(), entry(0)].concat(), [lower(), block(), sequence(&[0, 1]), entry(0)].concat()]
-            {
                 let image = [opening.clone(), nodes].concat();
                 let refused = line(&format!("refused 18 {}", image.len()));
                 add(image, if u32::from(number) < most { Accepted } else { refused });
@@ -1298,18 +1291,7 @@ pub fn order(cases: &mut Cases) {
     let with_nodes = |number: usize| [opening.clone(), blank_nodes(number)].concat();
 
     // head cut comes first, whatever the bytes left
-    let closed = |number: usize| [with_nodes(number), entry(0)].concat();
-    for before in [
-        Vec::new(),
-        small_bus(),
-        opening.clone(),
-        with_nodes(1),
-        with_nodes(7),
-        with_nodes(255),
-        with_nodes(256),
-        closed(1),
-        closed(256),
-    ] {
+    for before in [Vec::new(), small_bus(), opening.clone(), with_nodes(1), with_nodes(7), with_nodes(255), with_nodes(256)] {
         for tag in [0u8, 1, 2, 3, 4, 5, 6, 7, 8, 9, 10, 11, 255] {
             cases.add("order", [before.clone(), vec![tag]].concat(), Refused(1));
             for second in [0u8, 255] {
@@ -1319,8 +1301,7 @@ pub fn order(cases: &mut Cases) {
     }
 
     // one field with every mixture of faults, at every position where the answer differs
-    let befores = [Vec::new(), small_bus(), opening.clone(), with_nodes(1), with_nodes(256), closed(1)];
-    for (position, before) in befores.iter().enumerate() {
+    for (position, before) in [Vec::new(), small_bus(), opening.clone(), with_nodes(1), with_nodes(256)].iter().enumerate() {
         for tag in [0u8, 1, 2, 3, 4, 5, 6, 7, 8, 9, 10, 11, 255] {
             for body in bodies(tag) {
                 for length in [body.len(), 0, body.len() + 1, body.len() + 256] {
@@ -1377,8 +1358,7 @@ pub fn order(cases: &mut Cases) {
                 _ if node_tag(tag) => 3,
                 _ => 2,
             };
-            cases.add("order", [full.clone(), vec![tag], rest.clone()].concat(), Refused(number));
-            cases.add("order", [full.clone(), entry(255), vec![tag], rest].concat(), Refused(2));
+            cases.add("order", [full.clone(), vec![tag], rest].concat(), Refused(number));
         }
     }
     // before the nodes: values of the bus before all that follows
@@ -1473,8 +1453,8 @@ pub fn sizes(cases: &mut Cases) {
             assert!(closed.len() == length + 5, "the longest valid image with tag 8");
             cases.add("sizes", closed, Accepted);
         }
-        for tag in [0u8, 3, 8] {
-            for size in [length + 6, length + 7, length + 8, 9_300, 16_384, 16_385] {
+        for tag in [3u8, 8] {
+            for size in [length + 6, length + 7, length + 8, 16_385] {
                 let mut image = [longest.clone(), entry(1)].concat();
                 image.resize(size, tag);
                 cases.add("sizes", image, Refused(if size - length <= 7 { 1 } else { 2 }));

@@ -770,13 +770,12 @@ pub fn all(seed: u64, wanted: usize) -> Vec<Case> {
     cases::limits_of_entries(&mut all);
     cases::order(&mut all);
     cases::sizes(&mut all);
-    // all worked tasks and every sixth other image are written with tag 9 too, and as many with their entry named
+    // all worked tasks and every sixth other image are written with tag 9 too; every sixth image with its entry named
     for number in 0..all.list.len() {
-        let worked = WORKED.contains(&all.list[number].category);
-        if worked || number % 6 == 0 {
+        if WORKED.contains(&all.list[number].category) || number % 6 == 0 {
             all.add_other_way(number);
         }
-        if worked || number % 6 == 3 {
+        if number % 6 == 3 {
             all.add_named(&mut random, number);
         }
     }

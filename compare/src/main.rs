@@ -310,7 +310,7 @@ fn main() {
     let lines = summary.with_lines >= 1_000 && summary.wider >= 500 && summary.with_lines * 2 <= accepted;
     let unequal = summary.unequal.met(50) && summary.unequal.all >= 2_000 && summary.unequal.all * 3 <= accepted * 2;
     let schedules = unequal && summary.unequal_with_lines >= 500 && summary.pairs.0 >= 300 && summary.pairs.1 >= 300;
-    let named = summary.named.met(100) && summary.named.not_last >= 2_000 && summary.named.all * 2 <= accepted;
+    let named = summary.named.met(50) && summary.named.not_last >= 1_000 && summary.named.all * 2 <= accepted;
     let entries = named && summary.named_pairs.0 >= 300 && summary.named_pairs.1 >= 30;
     let ways = summary.enumerated >= 500 && summary.calculated >= 100 && summary.unread >= 20;
     let met = each_refusal && lines && schedules && entries && ways;
