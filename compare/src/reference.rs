@@ -85,12 +85,13 @@ impl Named {
             return;
         }
         let (entry, nodes) = (task.entry(), &task.nodes);
-        let heavy = depths(nodes).iter().any(|&depth| depth > MOST_DEPTH) || visits(nodes).iter().any(|&all| all > MOST_VISITS);
+        let deep = depths(nodes)[entry..].iter().any(|&depth| depth > MOST_DEPTH);
+        let long = visits(nodes)[entry..].iter().any(|&all| all > MOST_VISITS);
         let to_entry = Task { nodes: nodes[..=entry].to_vec(), ..task.clone() };
         self.all += 1;
         self.not_last += usize::from(entry + 1 < nodes.len());
         self.first += usize::from(entry == 0 && nodes.len() > 1);
-        self.heavy += usize::from(heavy);
+        self.heavy += usize::from(deep || long);
         self.lines += usize::from(to_entry.lines() < task.lines());
     }
 
