@@ -1174,7 +1174,7 @@ pub fn limits_of_entries(cases: &mut Cases) {
         for number in [0, 1, 255, 256, 65_535] {
             add([behind.clone(), entry(number)].concat(), at(2, place + 5));
         }
-        // what is wrong in it goes before what stands behind, and before 8, 9 and 18
+        // what is wrong in it goes before what stands behind
         for later in [vec![3], vec![3, 0], plain(1, 1), entry(0), field(11, &[]), blank_nodes(300)] {
             add(with(nodes, [entry(256), later.clone()].concat()), at(11, place));
             add(with(nodes, [field(8, &[0]), later].concat()), at(4, place));
@@ -1249,6 +1249,10 @@ pub fn limits_of_entries(cases: &mut Cases) {
         add([opening.clone(), nodes.concat(), entry(named)].concat(), expected);
     };
     for levels in [23, 24, 25, 26, 60, 255] {
+        // 11 goes before 8 and 9
+        for nodes in [tower(a2(), levels, &|below| sequence(&[below])), tower(a2(), levels, &|below| branch(&[below, below]))] {
+            add(&nodes, levels + 1, at(11, opening.len() + nodes.concat().len()));
+        }
         for named in [0, 1, 14, 15, 16, 17, 22, 23, 24, 25, 128, 254, 255] {
             if named > levels {
                 continue;

@@ -373,7 +373,7 @@ pub fn largest(edits: &mut Edits, random: &mut Random) {
         (longest_schedule(), longest_block(), entry(255)),
     ] {
         let is_plain = block == plain(1, 3);
-        // of the last field, and the number of a field behind it
+        // the length of the last field, and what a field behind it gives
         let (last, behind) = if tag_8.is_empty() { (35, 3) } else { (5, 2) };
         let longest = [longest_image(field_1, block, 254), tag_8].concat();
         let length = longest.len() as u64;

@@ -69,7 +69,7 @@ impl fmt::Display for Unequal {
 }
 
 /// Accepted images with tag 8: all, and those of them whose entry is not the last node, is the first and not the last, stands below a node
-/// that is too deep or too long for an entry, and below the only node with the highest line number.
+/// that is too deep or too long for an entry, and below all nodes with the highest line number.
 #[derive(Default)]
 pub struct Named {
     pub all: usize,
