@@ -1,7 +1,7 @@
 //! Images written by hand: the worked tasks, both sides of every limit, and inputs where more than one refusal holds.
 
 use crate::generate::{
-    blank_nodes, branch, bus, bus_block, fetch, field, looped, plain, schedule, sequence, starts, Cases, Expected,
+    blank_nodes, branch, bus, bus_block, entry, fetch, field, looped, plain, schedule, sequence, starts, Cases, Expected,
 };
 use crate::image::bus_of;
 use Expected::{Accepted, Open, Refused};
@@ -397,7 +397,14 @@ pub fn limits_of_lines(cases: &mut Cases) {
     for tag in [0, 1, 2, 8, 9, 11, 12, 18, 26, 138] {
         for length in [2, 5] {
             add(one(field(tag, &vec![1; length])), line("refused 2 11"));
-            add(one([fetch(0, 1, 1, 1), field(tag, &vec![1; length])].concat()), line("refused 2 19"));
+            // tag 8 may stand there, but not with that length, nor with number 257
+            let number = match (tag, length) {
+                (8, 2) => 11,
+                (8, _) => 4,
+                _ => 2,
+            };
+            let image = one([fetch(0, 1, 1, 1), field(tag, &vec![1; length])].concat());
+            add(image, line(&format!("refused {number} 19")));
         }
     }
     // "The depth of a block is 1", its visits are 1
@@ -818,7 +825,7 @@ pub fn number_of_lines(cases: &mut Cases) {
         for number in 0..4u8 {
             let block = || fetch(number, 1, 1, 2);
             let lower = || fetch(0, 1, 1, 3);
-            // alone; behind and before a lower line; not reached; not executed; in an arm; in every node
+            // alone; behind and before a lower line; not reached; not executed; in an arm; in every node; above the entry
             let all = [
                 block(),
                 [lower(), block(), sequence(&[0, 1])].concat(),
@@ -829,6 +836,7 @@ pub fn number_of_lines(cases: &mut Cases) {
                 [block(), plain(1, 1), branch(&[0, 1]), sequence(&[2, 2])].concat(),
                 [(0..=number).flat_map(|line| fetch(line, 1, 1, 2)).collect(), looped(1, 2, number.into())].concat(),
                 [block().repeat(5), sequence(&[4, 3, 2, 1, 0])].concat(),
+                [lower(), block(), sequence(&[0, 1]), entry(0)].concat(),
             ];
             for nodes in all {
                 let image = [opening.clone(), nodes].concat();
@@ -847,6 +855,7 @@ pub fn number_of_lines(cases: &mut Cases) {
         (1, vec![10, 0]),
         (1, vec![10, 0, 5, 3, 1]),
         (2, field(9, &[3, 1, 1, 0, 1])),
+        (11, entry(1)),
         (3, blank_nodes(256)),
         (4, field(10, &[3, 1, 1, 0])),
         (5, fetch(4, 1, 1, 1)),
@@ -875,6 +884,14 @@ pub fn number_of_lines(cases: &mut Cases) {
         // deep and long nodes that are not reached do not count, their lines do
         placed(18, [over(24, &|below| sequence(&[below])), plain(1, 1)].concat()),
         placed(18, with([looped(0, 10_000, 0), looped(0, 10_000, 1), plain(1, 1)].concat())),
+        // depth and visits are those of the node named
+        placed(18, [over(24, &|below| sequence(&[below])), entry(23)].concat()),
+        placed(8, [over(24, &|below| sequence(&[below])), entry(24)].concat()),
+        placed(8, [over(24, &|below| sequence(&[below])), plain(1, 1), entry(24)].concat()),
+        placed(18, with([looped(0, 10_000, 0), looped(0, 10, 1), entry(1)].concat())),
+        placed(9, with([looped(0, 10_000, 0), looped(0, 10, 1), entry(2)].concat())),
+        placed(9, with([looped(0, 10_000, 0), looped(0, 10, 1), plain(1, 1), entry(2)].concat())),
+        placed(18, with(entry(0))),
     ] {
         add(image, expected);
     }
@@ -1022,6 +1039,256 @@ fn with_visits(visits: u128) -> Vec<Vec<u8>> {
     nodes
 }
 
+/// The entry named in the image, change request W1: tasks with what `figure` writes for them, worked out here. Cores 2, slot 5, core 0,
+/// P = 10, unless said.
+pub fn worked_entries(cases: &mut Cases) {
+    let mut task =
+        |field_1: Vec<u8>, from: &[u8], (nodes, named): (&[Vec<u8>], u16), figures: (u64, u64), exits: &[(u64, u64)]| {
+            let image = [field_1, starts(from), nodes.concat(), entry(named)].concat();
+            cases.add("worked entries", image, listing(figures, exits));
+        };
+    // each node of one image, from {4}. A2: a wait of 6, 2 after 8. Plain 3: 7 after 3. A branch of both. "Loop over A2, counts 1 to 3,
+    // from {4}: 2 after 18, 4 after 10". A2 and then plain 3: 5 after 11. Plain 3 and then the loop: from 7 a wait of 3, 2 after 8, 4 after
+    // 10, 2 after 18.
+    let nodes = [a2(), plain(3, 3), branch(&[0, 1]), looped(1, 3, 0), sequence(&[0, 1]), sequence(&[1, 3]), plain(7, 7)];
+    task(small_bus(), &[4], (&nodes, 0), (8, 8), &[(2, 8)]);
+    task(small_bus(), &[4], (&nodes, 1), (3, 3), &[(7, 3)]);
+    task(small_bus(), &[4], (&nodes, 2), (8, 8), &[(2, 8), (7, 3)]);
+    task(small_bus(), &[4], (&nodes, 3), (18, 18), &[(2, 18), (4, 10)]);
+    task(small_bus(), &[4], (&nodes, 4), (11, 11), &[(5, 11)]);
+    task(small_bus(), &[4], (&nodes, 5), (18, 18), &[(2, 18), (4, 10)]);
+    task(small_bus(), &[4], (&nodes, 6), (7, 7), &[(1, 7)]);
+    // "A2 twice from {3, 5}", its entry below others that use it
+    let twice = [a2(), sequence(&[0, 0]), sequence(&[1, 1]), looped(1, 10_000, 2)];
+    task(small_bus(), &[3, 5], (&twice, 1), (9, 14), &[(2, 9), (4, 9)]);
+    task(small_bus(), &[3, 5], (&twice, 0), (7, 7), &[(2, 7), (5, 2)]);
+    // one node, which is the first and the last
+    task(small_bus(), &[4], (&[a2()], 0), (8, 8), &[(2, 8)]);
+    // "Loop, counts 0 to 0, from {4}: exit 4, both figures 0."
+    task(small_bus(), &[4], (&[a2(), looped(0, 0, 0), looped(1, 1, 0)], 1), (0, 0), &[(4, 0)]);
+    // the number's low byte: each node k of 256 is plain k, from {0}
+    let each: Vec<Vec<u8>> = (0..256).map(|own| plain(own, own)).collect();
+    for number in (0..=255).step_by(17).chain([1, 127, 128, 129, 254]) {
+        let time = u64::from(number);
+        task(small_bus(), &[0], (&each, number), (time, time), &[(time % 10, time)]);
+    }
+    // fetched once, 2 cycles and a hit of 1: two in a row from {4}, below a node that executes more: 2 after 8, 3 after 9. Published: {4}
+    // costs 8 and ends at {2, 5}, from 5 an access takes 7.
+    let fetched = [fetch(0, 2, 2, 1), sequence(&[0, 0]), sequence(&[1, 1])];
+    task(small_bus(), &[4], (&fetched, 1), (9, 15), &[(3, 9)]);
+    // a line of a node above the entry counts, and is not fetched: 64 × 16 = 1,024
+    let above = [plain(1, 1), fetch(3, 2, 2, 1), sequence(&[1, 0])];
+    task(bus(4, 16, 0), &[0], (&above, 0), (1, 1), &[(1, 1)]);
+    task(bus(4, 16, 0), &[0], (&above, 1), (2, 2), &[(2, 2)]);
+    // slots of unequal length: core 0 owns 0 to 2, and 5 and 6 of ten. 2 cycles from {6}: a wait of 4, 2 after 6; 3 cycles: 3 after 7.
+    let blocks = [a2(), bus_block(2, 3, 3), sequence(&[0, 1])];
+    task(two_slots(0), &[6], (&blocks, 0), (6, 6), &[(2, 6)]);
+    task(two_slots(0), &[6], (&blocks, 1), (7, 7), &[(3, 7)]);
+
+    let mut add = |field_1: Vec<u8>, nodes: &[Vec<u8>], named: u16, expected: Expected| {
+        cases.add("worked entries", [field_1, starts(&[0]), nodes.concat(), entry(named)].concat(), expected);
+    };
+    // "A block under 23 nested one-child sequences is accepted, under 24 gives 8."
+    for (levels, named) in [(23, 23), (24, 23), (24, 0), (30, 23), (255, 23), (255, 22), (255, 1)] {
+        add(small_bus(), &tower(a2(), levels, &|below| sequence(&[below])), named, line("tight 2\npublished 2\nexits 1\n2 2"));
+    }
+    for (levels, named) in [(24, 24), (25, 24), (255, 24), (255, 255)] {
+        let refused = line(&format!("refused 8 {}", 6 + 4 + 6 + u64::from(levels) * 5 + 5));
+        add(small_bus(), &tower(a2(), levels, &|below| sequence(&[below])), named, refused);
+    }
+    // the one named is too deep, and the last is not
+    let deep = [tower(a2(), 24, &|below| sequence(&[below])), vec![plain(1, 1)]].concat();
+    add(small_bus(), &deep, 24, line(&format!("refused 8 {}", 6 + 4 + 6 + 24 * 5 + 7 + 5)));
+    add(small_bus(), &deep, 25, line("tight 1\npublished 1\nexits 1\n1 1"));
+    // "A loop of 10,000 over a block, inside a loop of 9: 90,010 visits, accepted. Inside a loop of 10: 100,011, gives 9."
+    let inside = [plain(10, 10), looped(10_000, 10_000, 0), looped(9, 9, 1), looped(10, 10, 1), looped(2, 2, 3), plain(1, 1)];
+    let (refused, length) = (|length: usize| line(&format!("refused 9 {length}")), 6 + 4 + 7 + 4 * 9 + 5);
+    add(small_bus(), &inside[..5], 1, line("tight 100000\npublished 100000\nexits 1\n0 100000"));
+    add(small_bus(), &inside[..5], 2, line("tight 900000\npublished 900000\nexits 1\n0 900000"));
+    add(small_bus(), &inside[..5], 3, refused(length));
+    add(small_bus(), &inside[..5], 4, refused(length));
+    // the one named is too long, and the last is not
+    add(small_bus(), &inside, 3, refused(length + 7));
+    add(small_bus(), &inside, 5, line("tight 1\npublished 1\nexits 1\n1 1"));
+    // 65 × 16 = 1,040
+    add(bus(5, 13, 0), &above, 0, line("refused 18 37"));
+    add(bus(5, 13, 0), &above, 1, line("refused 18 37"));
+}
+
+/// "A field with tag 8 and body length 2 may close the image after at least one node field and holds the entry's node number". "11 entry,
+/// the number in tag 8 is not that of a node, judged and placed in that field as 5 is."
+pub fn limits_of_entries(cases: &mut Cases) {
+    let mut add = |image: Vec<u8>, expected: Expected| cases.add("limits of entries", image, expected);
+    let at = |number: u64, place: usize| line(&format!("refused {number} {place}"));
+    let openings = [[small_bus(), starts(&[0, 4])].concat(), [two_slots(0), starts(&[0, 4])].concat()];
+
+    // every number on both sides, and what a byte would make of it; a node's own duration shows which it is
+    for (opening, count) in openings.iter().flat_map(|opening| [1, 2, 3, 10, 255, 256].map(|count| (opening, count))) {
+        let nodes: Vec<u8> = (0..count).flat_map(|own| plain(own, own)).collect();
+        let place = opening.len() + nodes.len();
+        for number in
+            [0, 1, 2, count / 2, count - 1, count, count + 1, 9, 10, 11, 254, 255, 256, 257, 511, 512, count + 255, count + 256]
+                .into_iter()
+                .chain([4_096, 32_767, 32_768, 65_280, 65_281, 65_534, 65_535])
+        {
+            let image = [opening.clone(), nodes.clone(), entry(number)].concat();
+            add(image, if number < count { Accepted } else { at(11, place) });
+        }
+    }
+    let opening = &openings[0];
+    let with = |nodes: &[u8], more: Vec<u8>| [&opening[..], nodes, &more[..]].concat();
+    let (one, full) = (plain(1, 1), blank_nodes(256));
+    for nodes in [&one, &full] {
+        let place = opening.len() + nodes.len();
+        // "body length 2", with a body of that many bytes, and with none
+        for length in (0..=9).chain([32, 65, 255, 256, 257, 258, 512, 514]) {
+            let expected = || if length == 2 { Accepted } else { at(4, place) };
+            add(with(nodes, field(8, &vec![0; length])), expected());
+            add(
+                with(nodes, [field(8, &vec![0; length]), plain(1, 1)].concat()),
+                at(if length == 2 { 2 } else { 4 }, place + usize::from(length == 2) * 5),
+            );
+            add(with(nodes, field(8, &vec![9; length])[..3].to_vec()), at(if length == 2 { 1 } else { 4 }, place));
+        }
+        add(with(nodes, vec![8, 255, 255]), at(4, place));
+        // cut at each byte, with a good number and with one that is none
+        for number in [0, 256, 65_535] {
+            for left in 1..5 {
+                add(with(nodes, entry(number)[..left].to_vec()), at(1, place));
+            }
+        }
+        // "A field after it has the wrong tag": any, whatever its length, body and number, a second tag 8 too
+        let behind = with(nodes, entry(0));
+        for tag in (0..=12).chain([16, 136, 255]) {
+            for rest in [vec![0, 0], vec![255, 255], vec![0, 2, 0, 0], vec![0, 4, 0, 1, 0, 1], vec![0, 4, 0, 1]] {
+                add([behind.clone(), vec![tag], rest].concat(), at(2, place + 5));
+            }
+            // 1 or 2 bytes are a head that is cut
+            add([behind.clone(), vec![tag]].concat(), at(1, place + 5));
+            add([behind.clone(), vec![tag, 0]].concat(), at(1, place + 5));
+        }
+        for field in [a2(), fetch(0, 1, 1, 1), sequence(&[0]), branch(&[0, 0]), looped(1, 1, 0), small_bus(), starts(&[0])] {
+            add([behind.clone(), field.clone()].concat(), at(2, place + 5));
+            add([behind.clone(), field, entry(0)].concat(), at(2, place + 5));
+        }
+        for number in [0, 1, 255, 256, 65_535] {
+            add([behind.clone(), entry(number)].concat(), at(2, place + 5));
+        }
+        // what is wrong in it goes before what stands behind
+        for later in [vec![3], vec![3, 0], plain(1, 1), entry(0), field(11, &[]), blank_nodes(300)] {
+            add(with(nodes, [entry(256), later.clone()].concat()), at(11, place));
+            add(with(nodes, [field(8, &[0]), later].concat()), at(4, place));
+        }
+    }
+    // two different ones
+    let pair = with(&[], [plain(1, 1), plain(2, 2), entry(0)].concat());
+    add([pair.clone(), entry(1)].concat(), at(2, pair.len()));
+    // a 257th node field before it is one too many
+    for (opening, number) in openings.iter().flat_map(|opening| [0, 1, 255, 256, 257, 65_535].map(|number| (opening, number))) {
+        for nodes in [257, 258] {
+            add([opening.clone(), blank_nodes(nodes), entry(number)].concat(), at(3, opening.len() + 256 * 7));
+        }
+    }
+    add(with(&blank_nodes(255), [fetch(3, 1, 5, 2), entry(255)].concat()), Accepted);
+
+    // "Before the first node field it has the wrong tag": cut or whole, whatever its length and number, and whatever follows
+    for opening in &openings {
+        let first = opening.len() - 5;
+        for (before, place) in [(Vec::new(), 0), (opening[..first].to_vec(), first), (opening.clone(), opening.len())] {
+            for tag_8 in [entry(0), entry(1), entry(65_535), vec![8, 0, 2], vec![8, 0, 2, 0], vec![8, 0, 0], vec![8, 255, 255]] {
+                add([before.clone(), tag_8.clone()].concat(), at(2, place));
+                add([before.clone(), tag_8.clone(), plain(1, 1)].concat(), at(2, place));
+                add([before.clone(), tag_8, plain(1, 1), entry(0)].concat(), at(2, place));
+            }
+            add([before.clone(), vec![8]].concat(), at(1, place));
+            add([before, vec![8, 0]].concat(), at(1, place));
+        }
+        // between nodes: what follows is at fault
+        let between = [&opening[..], &plain(1, 1), &entry(0)].concat();
+        for node in [plain(1, 1), a2(), sequence(&[0]), looped(0, 1, 0)] {
+            add([between.clone(), node.clone()].concat(), at(2, between.len()));
+            add([between.clone(), node, entry(1)].concat(), at(2, between.len()));
+        }
+    }
+
+    // nodes above the entry are judged like all others
+    let place = opening.len() + 7;
+    for (number, node) in [
+        (2, field(9, &[])),
+        (2, field(0, &[0, 0])),
+        (4, field(3, &[0, 1, 0])),
+        (4, field(10, &[0, 1, 1, 0])),
+        (5, plain(1, 0)),
+        (5, plain(0, 64)),
+        (5, bus_block(2, 1, 6)),
+        (5, bus_block(3, 1, 1)),
+        (5, fetch(4, 1, 1, 1)),
+        (5, looped(2, 1, 0)),
+        (6, sequence(&[1])),
+        (6, branch(&[0, 1])),
+        (6, looped(0, 0, 1)),
+        (6, sequence(&[0, 65_535])),
+    ] {
+        for named in [0, 1, 2] {
+            add(with(&one, [node.clone(), entry(named)].concat()), at(number, place));
+        }
+    }
+    add(with(&one, vec![3, 0, 4, 0, 0, 8]), at(1, place));
+
+    // every kind of node is an entry, first, in the middle and last; all of them stand above each other
+    let kinds = [a2(), plain(2, 5), bus_block(1, 1, 3), fetch(2, 1, 2, 9), sequence(&[0, 1]), branch(&[2, 3]), looped(0, 2, 5)];
+    for opening in &openings {
+        for number in 0..8 {
+            let expected = if number < 7 { Accepted } else { at(11, opening.len() + 6 + 7 + 6 + 8 + 7 + 7 + 9) };
+            add([opening.clone(), kinds.concat(), entry(number)].concat(), expected);
+        }
+    }
+
+    // "Depth and visits are those of the node named": on both sides, below and above nodes with more and with fewer
+    let mut add = |nodes: &[Vec<u8>], named: u16, expected: Expected| {
+        add([opening.clone(), nodes.concat(), entry(named)].concat(), expected);
+    };
+    for levels in [23, 24, 25, 26, 60, 255] {
+        // 11 goes before 8 and 9
+        for nodes in [tower(a2(), levels, &|below| sequence(&[below])), tower(a2(), levels, &|below| branch(&[below, below]))] {
+            add(&nodes, levels + 1, at(11, opening.len() + nodes.concat().len()));
+        }
+        for named in [0, 1, 14, 15, 16, 17, 22, 23, 24, 25, 128, 254, 255] {
+            if named > levels {
+                continue;
+            }
+            let placed = |number: u64, nodes: &[Vec<u8>]| at(number, opening.len() + nodes.concat().len() + 5);
+            let deep = tower(a2(), levels, &|below| sequence(&[below]));
+            add(&deep, named, if named <= 23 { Accepted } else { placed(8, &deep) });
+            let deep = tower(a2(), levels, &|below| looped(0, 1, below));
+            add(&deep, named, if named <= 23 { Accepted } else { placed(8, &deep) });
+            let long = tower(a2(), levels, &|below| branch(&[below, below]));
+            let expected = match named {
+                0..=15 => Accepted,
+                16..=23 => placed(9, &long),
+                _ => placed(8, &long),
+            };
+            add(&long, named, expected);
+            // the last one is a block
+            let mut deep = tower(a2(), levels - 1, &|below| sequence(&[below]));
+            deep.push(plain(1, 1));
+            add(&deep, named, if named <= 23 || named == levels { Accepted } else { placed(8, &deep) });
+        }
+    }
+    for visits in [99_999, 100_000, 100_001, 1 << 32, 1 << 64] {
+        let mut nodes = with_visits(visits);
+        let last = nodes.len() as u16 - 1;
+        for named in [0, 1, last] {
+            add(&nodes, named, if named < last || visits <= 100_000 { Accepted } else { Refused(9) });
+        }
+        nodes.push(looped(0, 0, last));
+        nodes.push(looped(1, 1, last));
+        add(&nodes, last, either(visits <= 100_000, 9));
+        add(&nodes, last + 1, Accepted);
+        add(&nodes, last + 2, either(visits < 100_000, 9));
+    }
+}
+
 /// Several refusals hold; the order decides.
 pub fn order(cases: &mut Cases) {
     let opening = [small_bus(), starts(&[3, 5])].concat();
@@ -1089,7 +1356,12 @@ pub fn order(cases: &mut Cases) {
     let full = with_nodes(256);
     for tag in 0..=11u8 {
         for rest in [vec![0, 0], vec![255, 255], vec![0, 4], vec![0, 4, 1, 0, 0, 0], vec![0, 3, 9, 9, 9]] {
-            let number = if node_tag(tag) { 3 } else { 2 };
+            let number = match tag {
+                // none of these lengths is 2, and it is no node field
+                8 => 4,
+                _ if node_tag(tag) => 3,
+                _ => 2,
+            };
             cases.add("order", [full.clone(), vec![tag], rest].concat(), Refused(number));
         }
     }
@@ -1119,6 +1391,7 @@ fn bodies(tag: u8) -> Vec<Vec<u8>> {
         5 => vec![vec![0, 0], vec![1, 0], vec![0, 0, 255, 255]],
         6 => vec![vec![0, 0, 0, 0], vec![0, 0, 1, 0], vec![255, 255, 0, 0]],
         7 => vec![vec![0, 0, 0, 2, 0, 0], vec![0, 3, 0, 2, 0, 0], vec![0, 0, 0, 2, 1, 0], vec![0, 3, 0, 2, 1, 0]],
+        8 => vec![vec![0, 0], vec![0, 1], vec![1, 0], vec![255, 255]],
         9 => vec![vec![0, 0, 5, 1, 5], vec![0, 16, 5], vec![1, 0, 5], vec![0, 0, 129], vec![0, 0, 128, 1, 128, 0, 1]],
         10 => vec![vec![0, 1, 5, 0, 1], vec![3, 5, 5, 255, 255], vec![4, 1, 5, 0, 1], vec![0, 0, 5, 0, 1], vec![0, 1, 6, 0, 1]],
         _ => vec![vec![0, 0, 0, 0]],
@@ -1136,8 +1409,9 @@ pub fn longest_schedule() -> Vec<u8> {
     schedule(5, &pairs)
 }
 
-/// A bus with a period of 256, all starts, a block, 255 sequences of 16 children, the last of this child. "document 01's longest valid
-/// image" has grown to 9,260 bytes, with the longest field 1 and the longest block; with tag 1 it has 9,198, with a plain block one less.
+/// A bus with a period of 256, all starts, a block, 255 sequences of 16 children, the last of this child: 9,260 bytes with the longest
+/// field 1 and the longest block; with tag 1 it has 9,198, with a plain block one less. "document 01's longest valid image" has 5 more,
+/// those of tag 8.
 pub fn longest_image(field_1: Vec<u8>, block: Vec<u8>, child: u16) -> Vec<u8> {
     let all: Vec<u8> = (0..=255).collect();
     let mut image = [field_1, starts(&all), block].concat();
@@ -1170,10 +1444,31 @@ pub fn sizes(cases: &mut Cases) {
                 let expected = match size - length {
                     1 | 2 => Refused(1),
                     _ if node_tag(tag) => Refused(3),
+                    // a length of 2,056
+                    _ if tag == 8 => Refused(4),
                     _ => Refused(2),
                 };
                 cases.add("sizes", image, expected);
             }
+        }
+        // closed with tag 8, by a node of few visits or of all; with bytes and fields behind; cut there; not that of a node
+        for named in [0, 1, 254, 255] {
+            let closed = [longest.clone(), entry(named)].concat();
+            assert!(closed.len() == length + 5, "the longest valid image with tag 8");
+            cases.add("sizes", closed, Accepted);
+        }
+        for tag in [3u8, 8] {
+            for size in [length + 6, length + 7, length + 8, 16_385] {
+                let mut image = [longest.clone(), entry(1)].concat();
+                image.resize(size, tag);
+                cases.add("sizes", image, Refused(if size - length <= 7 { 1 } else { 2 }));
+            }
+        }
+        for cut in 1..5 {
+            cases.add("sizes", [&longest[..], &entry(255)[..5 - cut]].concat(), line(&format!("refused 1 {length}")));
+        }
+        for number in [256, 257, 511, 65_535] {
+            cases.add("sizes", [longest.clone(), entry(number)].concat(), line(&format!("refused 11 {length}")));
         }
         for cut in 1..40 {
             let expected = if cut == 35 { Accepted } else { Refused(1) };
@@ -1196,13 +1491,14 @@ pub fn sizes(cases: &mut Cases) {
         let block = || fetch(line_number, 1, 3, 7);
         cases.add("sizes", longest_image(with_1(), block(), 254), line("refused 18 9198"));
         cases.add("sizes", longest_image(with_9(), block(), 254), line("refused 18 9260"));
+        cases.add("sizes", [longest_image(with_9(), block(), 254), entry(1)].concat(), line("refused 18 9265"));
     }
     // with one pair more field 1 has a wrong length
     let pairs: Vec<(u8, u8)> = (0..33).map(|own| (own % 16, 7)).collect();
     cases.add("sizes", longest_image(schedule(5, &pairs), longest_block(), 254), line("refused 4 0"));
     // a bus field and nothing but junk; long inputs refused early
-    for size in [9_197, 9_198, 9_200, 9_260, 9_262, 16_384, 16_385, 20_000] {
-        for byte in [0u8, 1, 3, 9, 255] {
+    for size in [9_197, 9_198, 9_200, 9_260, 9_265, 16_384, 16_385, 20_000] {
+        for byte in [0u8, 1, 3, 8, 9, 255] {
             cases.add("sizes", vec![byte; size], Open);
             let mut image = small_bus();
             image.resize(size, byte);

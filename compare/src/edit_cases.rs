@@ -4,7 +4,7 @@ use crate::cases::{longest_block, longest_image, longest_schedule, two_slots};
 use crate::edit_generate::{Edits, Expected};
 use crate::editing::{is_plain, refused_line, Edit};
 use crate::generate::{
-    blank_nodes, branch, bus, bus_block, fetch, field, hexadecimal, looped, plain, schedule, sequence, starts, Random,
+    blank_nodes, branch, bus, bus_block, entry, fetch, field, hexadecimal, looped, plain, schedule, sequence, starts, Random,
 };
 use crate::image::judge;
 use Expected::{Begins, Line, Open};
@@ -114,6 +114,23 @@ pub fn worked(edits: &mut Edits) {
     done((small(), &[0]), &[plain(1, 1), sequence(&[0, 0, 0])], 0, (11, 11), (33, 33, &[(3, 33)]));
     done((small(), &[0]), &[plain(1, 1), plain(2, 2)], 0, (9, 9), (2, 2, &[(2, 2)]));
     done((small(), &[0]), &[plain(1, 1), plain(2, 2)], 1, (9, 9), (9, 9, &[(9, 9)]));
+    // the entry named. Node 2 executes node 1 twice, nodes 0, 1, 3 and 5 are plain; each is edited to 9: one that the entry reaches, the
+    // entry itself, and blocks that it does not reach, below it and above
+    let blocks = [plain(1, 1), plain(2, 2), sequence(&[1, 1]), plain(4, 4), sequence(&[2, 3]), plain(5, 5)];
+    let named = |number: u16| [&blocks[..], &[entry(number)]].concat();
+    for (number, times) in [(2, [4, 18, 4, 4]), (0, [9, 1, 1, 1]), (3, [4, 4, 9, 4]), (4, [8, 22, 13, 8]), (5, [5, 5, 5, 9])] {
+        for (node, time) in [0, 1, 3, 5].into_iter().zip(times) {
+            done((small(), &[0]), &named(number), node, (9, 9), (time, time, &[(time % 10, time)]));
+        }
+    }
+    // a node above the entry that is too deep or too long for one
+    let long = [plain(1, 1), looped(10_000, 10_000, 0), looped(10, 10, 1), plain(7, 7), entry(1)];
+    done((small(), &[0]), &long, 0, (2, 2), (20_000, 20_000, &[(0, 20_000)]));
+    done((small(), &[0]), &long, 3, (2, 2), (10_000, 10_000, &[(0, 10_000)]));
+    // a line above the entry, 64 × 16 = 1,024, and slots of unequal length: 4 cycles, and an access of 3: 3 after 4 + 6 + 3
+    done((bus(4, 16, 0), &[0]), &[plain(1, 1), fetch(3, 2, 2, 1), sequence(&[0, 1]), entry(0)], 0, (9, 9), (9, 9, &[(9, 9)]));
+    let three_of = [plain(1, 1), bus_block(2, 3, 3), sequence(&[0, 1]), looped(9, 9, 2), plain(0, 63), entry(2)];
+    done((two_slots(0), &[0]), &three_of, 0, (4, 4), (13, 13, &[(3, 13)]));
     // times above 32 bits: 99,989 times
     let long = [plain(1, 1), looped(10_000, 10_000, 0), looped(9_989, 9_989, 0), sequence(&[1, 1, 1, 1, 1, 1, 1, 1, 1, 2])];
     done((small(), &[0]), &long, 0, (65_535, 65_535), (6_552_779_115, 6_552_779_115, &[(5, 6_552_779_115)]));
@@ -161,6 +178,10 @@ pub fn grid(edits: &mut Edits) {
         [two_slots(1), starts(&[3, 9]), fetch(3, 1, 3, 9), bus_block(1, 3, 3), plain(1, 1), sequence(&[0, 2, 1, 0])].concat(),
         [schedule(0, &[(0, 1)]), starts(&[0]), plain(1, 1), bus_block(2, 1, 1), branch(&[0, 1])].concat(),
         [longest_schedule(), starts(&all), plain(3, 3), bus_block(2, 12, 12)].concat(),
+        // the entry named: below, between and above plain blocks, and one itself
+        [every_kind(), entry(5)].concat(),
+        [bus(2, 3, 1), starts(&[2, 5]), bus_block(1, 2, 3), plain(0, 1), looped(0, 3, 0), entry(0)].concat(),
+        [two_slots(0), starts(&[6]), plain(0, 1), plain(2, 2), sequence(&[0, 1]), entry(1)].concat(),
     ];
     for image in &images {
         let task = judge(image).expect("an image that is accepted");
@@ -223,6 +244,28 @@ fn broken() -> Vec<(u64, Vec<u8>)> {
         (18, [bus(2, 128, 1), starts(&[0]), plain(1, 1), fetch(3, 1, 1, 1), sequence(&[1, 0])].concat()),
         (18, [bus(5, 13, 2), starts(&[0]), plain(1, 1), fetch(3, 1, 1, 1), plain(1, 1)].concat()),
         (18, [bus(2, 64, 0), starts(&[0]), plain(1, 1), plain(2, 2), fetch(3, 1, 1, 1), sequence(&[2, 0, 1])].concat()),
+        // with tag 8: an entry that is not a node; cut; before the nodes; of a wrong length; followed by bytes, a field or another; a node
+        // above the entry that is refused; a named one that is too deep or too long, and a line above it that is too many
+        (11, with(entry(9))),
+        (11, with(entry(256))),
+        (11, with(entry(65_535))),
+        (11, [opening(), blank_nodes(256), entry(256)].concat()),
+        (11, [wide(), tower(24), entry(25)].concat()),
+        (1, with(vec![8])),
+        (1, with(vec![8, 0, 2])),
+        (1, with(vec![8, 0, 2, 0])),
+        (1, with([entry(0), vec![3, 0]].concat())),
+        (2, [opening(), entry(0), plain(1, 1)].concat()),
+        (2, with([entry(0), plain(1, 1)].concat())),
+        (2, with([entry(0), entry(0)].concat())),
+        (4, with(field(8, &[0]))),
+        (4, with(field(8, &[0, 0, 0]))),
+        (5, with([plain(1, 0), entry(0)].concat())),
+        (6, with([sequence(&[9]), entry(0)].concat())),
+        (3, [opening(), blank_nodes(257), entry(0)].concat()),
+        (8, [opening(), plain(1, 1), tower(24), plain(1, 1), entry(24)].concat()),
+        (9, [opening(), plain(1, 1), looped(1, 10_000, 0), looped(1, 10, 1), plain(1, 1), entry(2)].concat()),
+        (18, [bus(16, 16, 0), starts(&[0]), plain(1, 1), fetch(2, 1, 1, 1), entry(0)].concat()),
         // with tag 9: a field 1 that is cut, stands behind another, has a wrong length, core, slot or sum, or no slot for the analysed
         // core; a duration above the longest stretch; no node; a period of 65 and four lines
         (1, two_slots(0)[..11].to_vec()),
@@ -243,6 +286,13 @@ fn broken() -> Vec<(u64, Vec<u8>)> {
 pub fn order(edits: &mut Edits) {
     let bad = [(1, 0), (0, 64), (65_535, 65_536), (LARGEST, LARGEST), (BITS_16 + 1, BITS_16 + 2), (LARGEST - 10, 5)];
     let absent = [9, 10, 255, 256, BITS_16, BITS_32, LARGEST];
+    // 11 at its field
+    let place = every_kind().len() as u64;
+    for (number, node) in [9, 10, 256, 65_535].into_iter().flat_map(|number| [0, 1, 9].map(|node| (number, node))) {
+        let image = [every_kind(), entry(number)].concat();
+        edits.add("order of refusals", edit(&image, node, (1, 2), 10), Line(refused_line(&image, 11, place)));
+        edits.add("order of refusals", edit(&image, node, (2, 1), 0), Line(refused_line(&image, 11, place)));
+    }
     for (number, image) in broken() {
         for node in [0, 1, 2, 7, 8, 9, 256, LARGEST] {
             for durations in [(1, 2), (1, 0), (0, 64), (5, 65_536), (LARGEST, LARGEST)] {
@@ -253,8 +303,10 @@ pub fn order(edits: &mut Edits) {
         }
     }
     // where the fields of the plain blocks stand: the first at 11, the second after 7 and 6 bytes more, the third after 7, 9, 7 and 9;
-    // behind a field 1 of 12 bytes all 6 bytes further on
-    for (image, further) in [(every_kind(), 0), (every_kind_on(two_slots(0)), 6)] {
+    // behind a field 1 of 12 bytes all 6 bytes further on; behind them tag 8, or not
+    let closed = |number: u16| [every_kind(), entry(number)].concat();
+    let images = [(every_kind(), 0), (every_kind_on(two_slots(0)), 6), (closed(8), 0), (closed(4), 0), (closed(0), 0)];
+    for (image, further) in images {
         let length = image.len() as u64;
         for (node, place) in [(0, 11 + further), (2, 24 + further), (6, 56 + further)] {
             for places in [0, 9, 10, 300] {
@@ -273,8 +325,8 @@ pub fn order(edits: &mut Edits) {
     }
 }
 
-/// Images of 256 nodes, and the longest that are accepted: with tag 9 and a block of tag 10, 9,260 bytes, and with a plain one, 9,259;
-/// with tag 1 9,198 and 9,197.
+/// Images of 256 nodes, and the longest that are accepted: with tags 8 and 9 and a block of tag 10, 9,265 bytes, and with a plain one,
+/// 9,264; without tag 8 5 less; with tag 1 9,198 and 9,197.
 pub fn largest(edits: &mut Edits, random: &mut Random) {
     let opening = [bus(3, 4, 1), starts(&[0, 11])].concat();
     let blocks: Vec<u8> = (0..255).flat_map(|own| plain(own, own + own % 5)).collect();
@@ -283,12 +335,15 @@ pub fn largest(edits: &mut Edits, random: &mut Random) {
         (0..255u16).flat_map(|own| if own % 3 == 1 { bus_block(1, 1, 3) } else { plain(own, own + 3) }).collect();
     let images = [
         [opening.clone(), blocks.clone(), last.clone()].concat(),
-        [opening.clone(), blocks, plain(255, 256)].concat(),
-        [opening.clone(), mixed, last].concat(),
-        [opening, blank_nodes(256)].concat(),
+        [opening.clone(), blocks.clone(), plain(255, 256)].concat(),
+        [opening.clone(), mixed, last.clone()].concat(),
+        [opening.clone(), blank_nodes(256)].concat(),
+        // the same with tag 8: an entry in the middle, and 255
+        [opening.clone(), blocks.clone(), last.clone(), entry(127)].concat(),
+        [opening, blocks, last, entry(255)].concat(),
     ];
     for (which, image) in images.iter().enumerate() {
-        let named: Vec<u64> = if which == 3 { vec![0, 1, 127, 128, 253, 254, 255, 256, 257, 511] } else { (0..260).collect() };
+        let named: Vec<u64> = if which >= 3 { vec![0, 1, 127, 128, 253, 254, 255, 256, 257, 511] } else { (0..260).collect() };
         for node in named {
             let lowest = random.below(300);
             let places = *random.one_of(&[11, 12, 256, 300]);
@@ -309,14 +364,18 @@ pub fn largest(edits: &mut Edits, random: &mut Random) {
             edits.add("256 nodes", edit(image, node, (3, 2), 0), Line(refused_line(image, 5, place)));
         }
     }
-    for (field_1, block) in [
-        (longest_schedule(), plain(1, 3)),
-        (longest_schedule(), longest_block()),
-        (bus(16, 16, 5), plain(1, 3)),
-        (bus(16, 16, 5), longest_block()),
+    for (field_1, block, tag_8) in [
+        (longest_schedule(), plain(1, 3), Vec::new()),
+        (longest_schedule(), longest_block(), Vec::new()),
+        (bus(16, 16, 5), plain(1, 3), Vec::new()),
+        (bus(16, 16, 5), longest_block(), Vec::new()),
+        (longest_schedule(), plain(1, 3), entry(1)),
+        (longest_schedule(), longest_block(), entry(255)),
     ] {
         let is_plain = block == plain(1, 3);
-        let longest = longest_image(field_1, block, 254);
+        // the length of the last field, and what a field behind it gives
+        let (last, behind) = if tag_8.is_empty() { (35, 3) } else { (5, 2) };
+        let longest = [longest_image(field_1, block, 254), tag_8].concat();
         let length = longest.len() as u64;
         let cut = longest[..longest.len() - 1].to_vec();
         let more = [longest.clone(), plain(1, 1)].concat();
@@ -328,8 +387,8 @@ pub fn largest(edits: &mut Edits, random: &mut Random) {
                 }
             }
             // the last field, and the field behind it
-            edits.add("longest image", edit(&cut, node, (1, 2), 256), Begins(format!("edit 1 1 {} ", length - 35)));
-            edits.add("longest image", edit(&more, node, (1, 2), 256), Begins(format!("edit 1 3 {length} ")));
+            edits.add("longest image", edit(&cut, node, (1, 2), 256), Begins(format!("edit 1 1 {} ", length - last)));
+            edits.add("longest image", edit(&more, node, (1, 2), 256), Begins(format!("edit 1 {behind} {length} ")));
         }
     }
 }

@@ -24,7 +24,7 @@ mod runs;
 
 use edit_generate::{Case, Expected};
 use editing::Found;
-use reference::{Lines, Unequal};
+use reference::{Lines, Named, Unequal};
 use report::{Options, Tests};
 use std::collections::BTreeMap;
 use std::sync::Mutex;
@@ -57,6 +57,10 @@ struct Summary {
     /// edits of images with tag 9, and figures of such
     with_pairs: usize,
     unequal: Unequal,
+    /// edits of images with tag 8, figures of such, and those of them after an edit of a block above the entry
+    with_entry: usize,
+    named: Named,
+    above: usize,
 }
 
 /// Compares the program's line for an edit.
@@ -74,7 +78,12 @@ fn perform(number: usize, case: &Case, line: &str, summary: &Mutex<Summary>) {
     summary.with_lines += usize::from(answer.lines != Lines::None);
     summary.wider += usize::from(answer.lines == Lines::Wider);
     summary.with_pairs += usize::from(case.edit.image.first() == Some(&9));
-    answer.task.iter().for_each(|task| summary.unequal.count(task));
+    summary.with_entry += usize::from(generate::has_entry(&case.edit.image));
+    if let Some(task) = &answer.task {
+        summary.unequal.count(task);
+        summary.named.count(task);
+        summary.above += usize::from(case.edit.node > task.entry() as u64);
+    }
     match answer.found {
         Found::Own(number) => *summary.own.entry(number).or_default() += 1,
         Found::Block { fetched } => {
@@ -127,11 +136,15 @@ fn main() {
     );
     println!("figures with lines: {}, of them with published exits at which no run ends: {}", summary.with_lines, summary.wider);
     println!("edits of images with tag 9: {}; figures with tag 9: {}", summary.with_pairs, summary.unequal);
+    println!("edits of images with tag 8: {}; figures with tag 8: {}", summary.with_entry, summary.named);
+    println!("figures after an edit above the entry: {}", summary.above);
     // every answer of the papers was met, and runs were enumerated
-    let each_refusal = (1..=9).chain([18]).all(|number| summary.own.get(&number).copied().unwrap_or(0) >= 10);
+    let each_refusal = (1..=9).chain([11, 18]).all(|number| summary.own.get(&number).copied().unwrap_or(0) >= 10);
     let edits = summary.block.min(summary.durations).min(summary.table) >= 500;
     let lines = summary.fetched.min(summary.with_lines).min(summary.wider) >= 200;
     let schedules = summary.with_pairs >= 5_000 && summary.unequal.all >= 1_000 && summary.unequal.met(50);
-    let met = each_refusal && edits && lines && schedules && summary.enumerated >= 2_000 && summary.calculated >= 100;
+    let entries = summary.with_entry >= 5_000 && summary.named.not_last >= 1_000 && summary.named.met(50) && summary.above >= 200;
+    let ways = summary.enumerated >= 2_000 && summary.calculated >= 100;
+    let met = each_refusal && edits && lines && schedules && entries && ways;
     summary.tests.close(all.len() + batches.len(), &[(met, "too few edits of some kind")], LEAST_PASSED);
 }

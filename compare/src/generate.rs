@@ -17,9 +17,12 @@ pub struct Case {
     pub category: &'static str,
     pub image: Vec<u8>,
     pub expected: Expected,
-    /// the number of the image that says the same with tag 1, where this one is made of it
+    /// the number of the image that says the same with tag 1, or without tag 8, where this one is made of it
     pub same_as: Option<usize>,
 }
+
+/// The category of images made of others by naming their entry.
+pub const NAMED: &str = "entry named";
 
 /// The images, each once.
 #[derive(Default)]
@@ -37,14 +40,27 @@ impl Cases {
 
     /// Adds the image of this number with its equal schedule written the other way, where that can be done and both are read whole.
     fn add_other_way(&mut self, number: usize) {
+        if let Some(image) = with_pairs(&self.list[number].image).filter(|image| image.len() <= MOST_BYTES) {
+            self.add_same("written either way", image, number);
+        }
+    }
+
+    /// Adds the image of this number with its entry named, where that can be done and it is calculated in time.
+    fn add_named(&mut self, random: &mut Random, number: usize) {
+        if let Some(image) = with_entry(random, &self.list[number].image).filter(|image| work(image) <= MOST_WORK) {
+            self.add_same(NAMED, image, number);
+        }
+    }
+
+    /// Adds an image that is longer than the one of this number, and says the same.
+    fn add_same(&mut self, category: &'static str, image: Vec<u8>, number: usize) {
         let case = &self.list[number];
-        let Some(image) = with_pairs(&case.image).filter(|image| image.len() <= MOST_BYTES) else { return };
         let expected = match &case.expected {
             Expected::Text(text) => Expected::Text(moved(text, image.len() - case.image.len())),
             expected => expected.clone(),
         };
         let all = self.list.len();
-        self.add("written either way", image, expected);
+        self.add(category, image, expected);
         self.list[all..].iter_mut().for_each(|added| added.same_as = Some(number));
     }
 
@@ -160,6 +176,11 @@ pub fn looped(least: u16, greatest: u16, body: u16) -> Vec<u8> {
     field(7, &numbers(&[least, greatest, body]))
 }
 
+/// The field that closes an image: the entry's number.
+pub fn entry(number: u16) -> Vec<u8> {
+    field(8, &numbers(&[number]))
+}
+
 /// Plain blocks of 1 cycle.
 pub fn blank_nodes(number: usize) -> Vec<u8> {
     plain(1, 1).repeat(number)
@@ -172,7 +193,28 @@ fn with_pairs(image: &[u8]) -> Option<Vec<u8>> {
     good.then(|| [schedule(*core, &equal_pairs(*cores, *slot)), rest.to_vec()].concat())
 }
 
-/// What has to be written for an image whose field 1 is so many bytes longer: the place of a refusal moves, and nothing else.
+/// The image with nodes more that use its entry, or do not, and with tag 8 that names the node that was its last; if it has no such field
+/// and its fields are good, so that it is accepted or refused with 8, 9 or 18.
+fn with_entry(random: &mut Random, image: &[u8]) -> Option<Vec<u8>> {
+    let good = judge(image).map_or_else(|refusal| matches!(refusal.number, 8 | 9 | 18), |_| true);
+    if !good || has_entry(image) {
+        return None;
+    }
+    let last = field_places(image).len() as u16 - 4;
+    let mut named = image.to_vec();
+    for _ in 0..random.below(4).min(255 - u64::from(last)) {
+        named.extend(match random.below(5) {
+            0 => plain(random.from(250, 300) as u16, 300),
+            1 => bus_block(2, 1, 1),
+            2 => sequence(&[last, 0, last]),
+            3 => branch(&[0, last]),
+            _ => looped(0, 10_000, last),
+        });
+    }
+    Some([named, entry(last)].concat())
+}
+
+/// What has to be written for an image that is so many bytes longer before the place of a refusal: this moves, and nothing else.
 pub fn moved(text: &str, by: usize) -> String {
     let words: Vec<&str> = text.trim_end().split(' ').collect();
     match words[..] {
@@ -211,7 +253,7 @@ pub fn work(image: &[u8]) -> u64 {
 }
 
 /// The categories of tasks that are worked out by hand.
-const WORKED: [&str; 3] = ["worked", "worked lines", "worked schedules"];
+const WORKED: [&str; 4] = ["worked", "worked lines", "worked schedules", "worked entries"];
 
 /// How large random tasks may become.
 pub struct Shape {
@@ -387,12 +429,15 @@ fn random_lines(random: &mut Random, period: u64) -> u64 {
     }
 }
 
-/// The node fields of a task.
+/// The node fields of a task. Once in three there is a field with tag 8 behind them; every other time it names the node that would be the
+/// last without those that stand above it.
 pub fn random_nodes(random: &mut Random, shape: &Shape, bus: &Bus) -> Vec<u8> {
     let lines = random_lines(random, bus.period());
     let mut fields = Vec::new();
     let nodes = random.from(1, shape.nodes);
-    for own in 0..nodes {
+    let named = random.once_in(3);
+    let above = if named && random.once_in(2) { random.from(1, 4) } else { 0 };
+    for own in 0..nodes + above {
         // the entry is seldom a block
         let kind = if own == 0 {
             random.from(0, 3)
@@ -403,7 +448,23 @@ pub fn random_nodes(random: &mut Random, shape: &Shape, bus: &Bus) -> Vec<u8> {
         };
         fields.extend(random_node(random, shape, own, kind, (bus, lines)));
     }
+    if above > 0 {
+        fields.extend(entry(nodes as u16 - 1));
+    } else if named {
+        fields.extend(random_entry(random, nodes));
+    }
     fields
+}
+
+/// The entry of so many nodes: any, the first, the last, and mostly one of the last few.
+fn random_entry(random: &mut Random, nodes: u64) -> Vec<u8> {
+    let number = match random.below(8) {
+        0 => 0,
+        1 => nodes - 1,
+        2..=3 => random.below(nodes),
+        _ => nodes - 1 - random.below(nodes.min(4)),
+    };
+    entry(number as u16)
 }
 
 /// Where there are lines, most blocks have one.
@@ -492,6 +553,9 @@ fn many_lines(random: &mut Random) -> Vec<u8> {
         let kind = if own < 2 { random.from(0, 3) } else { random.from(0, 9) };
         image.extend(random_node(random, &SMALL, own, kind, (&bus, 4)));
     }
+    if random.once_in(2) {
+        image.extend(random_entry(random, nodes));
+    }
     image
 }
 
@@ -513,7 +577,7 @@ fn overtaking(random: &mut Random) -> Vec<u8> {
     let passed = time(random);
     let count = random.from(20, 1_500) as u16;
     let least = if random.once_in(2) { count } else { random.below(count.into()) as u16 };
-    let nodes = [
+    let mut nodes = vec![
         block(random),
         block(random),
         plain(passed, passed),
@@ -521,6 +585,9 @@ fn overtaking(random: &mut Random) -> Vec<u8> {
         sequence(if random.once_in(2) { &[3] } else { &[3, 1] }),
         looped(least, count, 4),
     ];
+    if random.once_in(3) {
+        nodes.extend([looped(10_000, 10_000, 5), entry(5)]);
+    }
     let start = if one_offset { (core + 1) * slot % period } else { random.below(period) };
     let field_1 = Schedule::equal(cores, slot).field(random, core as u8);
     [field_1, starts(&[start as u8]), nodes.concat()].concat()
@@ -549,6 +616,11 @@ fn field_places(image: &[u8]) -> Vec<usize> {
     places
 }
 
+/// Whether a field behind the starts has tag 8.
+pub fn has_entry(image: &[u8]) -> bool {
+    field_places(image).iter().skip(2).any(|&place| image.get(place) == Some(&8))
+}
+
 /// One or more changes to a valid image.
 fn damage(random: &mut Random, valid: &[u8]) -> Vec<u8> {
     let mut image = valid.to_vec();
@@ -557,10 +629,18 @@ fn damage(random: &mut Random, valid: &[u8]) -> Vec<u8> {
             break;
         }
         let places = field_places(&image);
-        let at = random.below(image.len() as u64) as usize;
-        let start = *random.one_of(&places[..places.len().max(2) - 1]);
+        let mut at = random.below(image.len() as u64) as usize;
+        let mut start = *random.one_of(&places[..places.len().max(2) - 1]);
+        // every third time in the field with tag 8, where it is the last
+        let last = places[places.len().max(2) - 2];
+        let closed = image[last] == 8;
+        if closed && random.once_in(3) {
+            start = last;
+            at = random.from(last as u64, image.len() as u64 - 1) as usize;
+        }
+        let nodes = (places.len() as u64).saturating_sub(if closed { 4 } else { 3 });
         let end = *places.iter().find(|&&place| place > start).unwrap_or(&image.len());
-        match random.below(12) {
+        match random.below(14) {
             0 => image[at] = random.below(256) as u8,
             1 => image[at] ^= 1 << random.below(8),
             2 => image[at] = *random.one_of(&[0, 1, 2, 3, 4, 5, 6, 7, 8, 9, 10, 15, 16, 63, 64, 127, 128, 129, 255]),
@@ -584,6 +664,12 @@ fn damage(random: &mut Random, valid: &[u8]) -> Vec<u8> {
             9 => image[start] = random.below(12) as u8,
             10 if start + 2 < image.len() => image[start + 2] = image[start + 2].wrapping_add(random.from(254, 258) as u8),
             10 => image.push(0),
+            // a number that is just that of a node or just not: in tag 8, or with tag 8 behind any field
+            11..=12 => {
+                let number = (nodes + random.below(3)).saturating_sub(1) + *random.one_of(&[0, 0, 0, 256, 65_000]);
+                let from = if image[start] == 8 { start } else { end };
+                image.splice(from..end, entry(number as u16));
+            }
             _ => {
                 for _ in 0..random.from(1, 8) {
                     image.push(random.below(12) as u8);
@@ -609,7 +695,7 @@ fn loose_fields(random: &mut Random) -> Vec<u8> {
             continue;
         }
         let near = |random: &mut Random| (own + random.below(3)).saturating_sub(1) as u16;
-        image.extend(match random.below(7) {
+        image.extend(match random.below(8) {
             0 => plain(random.below(200) as u16, random.below(200) as u16),
             1 => bus_block(random.below(4) as u8, random.below(beyond) as u8, random.below(beyond) as u8),
             2 => sequence(&[near(random), near(random)]),
@@ -619,8 +705,15 @@ fn loose_fields(random: &mut Random) -> Vec<u8> {
                 let (lowest, highest) = (random.below(beyond) as u8, random.below(beyond) as u8);
                 fetch(random.below(5) as u8, lowest, highest, random.below(200) as u16)
             }
+            6 => entry(near(random)),
             _ => field(random.below(12) as u8, &vec![random.below(3) as u8; random.below(9) as usize]),
         });
+    }
+    // closed as it should be, or nearly
+    match random.below(6) {
+        0..=1 => image.extend(random_entry(random, nodes)),
+        2 => image.extend(entry((nodes - 1 + random.below(3)) as u16)),
+        _ => {}
     }
     image
 }
@@ -651,6 +744,9 @@ fn loose_schedule(random: &mut Random) -> Vec<u8> {
     let duration = (near + random.below(3)).clamp(1, 255) as u8;
     let block = if random.once_in(2) { bus_block(2, 1, duration) } else { fetch(0, duration, duration, 1) };
     let mut image = [field_1, starts(&[random.below(period) as u8]), block, plain(1, 2), sequence(&[1, 0, 1, 0])].concat();
+    if random.once_in(4) {
+        image.extend(random_entry(random, 3));
+    }
     if random.once_in(10) {
         image[2] = image[2].wrapping_add(random.from(254, 258) as u8);
     }
@@ -670,12 +766,17 @@ pub fn all(seed: u64, wanted: usize) -> Vec<Case> {
     cases::limits_of_schedules(&mut all);
     cases::number_of_lines(&mut all);
     cases::depth_and_visits(&mut all);
+    cases::worked_entries(&mut all);
+    cases::limits_of_entries(&mut all);
     cases::order(&mut all);
     cases::sizes(&mut all);
-    // all worked tasks and every sixth other image are written with tag 9 too
+    // all worked tasks and every sixth other image are written with tag 9 too; every sixth image with its entry named
     for number in 0..all.list.len() {
         if WORKED.contains(&all.list[number].category) || number % 6 == 0 {
             all.add_other_way(number);
+        }
+        if number % 6 == 3 {
+            all.add_named(&mut random, number);
         }
     }
 
@@ -692,6 +793,14 @@ pub fn all(seed: u64, wanted: usize) -> Vec<Case> {
         let (image, task) = valid_task(&mut random, &SMALL);
         if task.nodes.len() >= 4 {
             models.push(image);
+        }
+    }
+    // every third of them has tag 8
+    for model in models.iter_mut().step_by(3).filter(|model| !has_entry(model)) {
+        let nodes = field_places(model).len() as u64 - 3;
+        let closed = [&model[..], &random_entry(&mut random, nodes)].concat();
+        if judge(&closed).is_ok() && work(&closed) <= MOST_WORK {
+            *model = closed;
         }
     }
     let spread = models.len() / 16 + 1;
@@ -771,6 +880,10 @@ pub fn all(seed: u64, wanted: usize) -> Vec<Case> {
             16 => {
                 let image = loose_schedule(&mut random);
                 all.add_quick("loose schedules", image);
+            }
+            17 if random.once_in(2) => {
+                let number = random.below(all.list.len() as u64) as usize;
+                all.add_named(&mut random, number);
             }
             17..=18 => {
                 // three times in four one that is accepted

@@ -97,6 +97,11 @@ impl Graph {
         self.every.iter().filter(|image| image.bus.equal.is_none()).count()
     }
 
+    /// Tasks whose image has tag 8.
+    pub fn with_entry(&self) -> usize {
+        self.every.iter().filter(|image| image.named.is_some()).count()
+    }
+
     /// Whether images with tag 9 have different analysed cores.
     pub fn shared(&self) -> bool {
         let cores = || self.every.iter().filter(|image| image.bus.equal.is_none()).map(|image| image.bus.core);

@@ -1,4 +1,4 @@
-//! Judges a task image: document 01, "The task image" and "When no figure is given", and change requests W5 and W9.
+//! Judges a task image: document 01, "The task image" and "When no figure is given", and change requests W1, W5 and W9.
 
 /// "reads at most 16,384 bytes from standard input and judges those"
 pub const MOST_BYTES: usize = 16_384;
@@ -90,17 +90,20 @@ pub enum Node {
     Loop { least: u64, greatest: u64, body: usize },
 }
 
-/// An accepted image. The last node is the entry.
+/// An accepted image.
 #[derive(Clone, PartialEq, Debug, Default)]
 pub struct Task {
     pub bus: Bus,
     pub starts: Vec<u64>,
     pub nodes: Vec<Node>,
+    /// the entry's number, where a field with tag 8 holds it
+    pub named: Option<usize>,
 }
 
 impl Task {
+    /// "The last node is the entry", or the node that tag 8 names.
     pub fn entry(&self) -> usize {
-        self.nodes.len() - 1
+        self.named.unwrap_or(self.nodes.len() - 1)
     }
 
     /// "Lines are one more than the highest line number in the image, or 0."
@@ -119,8 +122,8 @@ pub struct Refusal {
     pub place: u64,
 }
 
-/// "Fields are judged from the front. Within one the order is: head cut, 2, 3, 4, body cut, 5, 6. Then 7, 8, 9, 10." And
-/// 18 "judged after 9 and before 10".
+/// "Fields are judged from the front. Within one the order is: head cut, 2, 3, 4, body cut, 5, 6. Then 7, 8, 9, 10." And 11 "judged and
+/// placed in that field as 5 is", 18 "judged after 9 and before 10".
 pub fn judge(image: &[u8]) -> Result<Task, Refusal> {
     let mut task = Task::default();
     let mut place = 0;
@@ -134,17 +137,19 @@ pub fn judge(image: &[u8]) -> Result<Task, Refusal> {
         }
         let tag = image[place];
         // "the first field's tag is not 1, the second's not 2, or a later one's not 3 to 7", nor 10; "A field with tag 9 may stand first
-        // in place of tag 1"
+        // in place of tag 1"; one with tag 8 "may close the image after at least one node field", and "A field after it has the wrong tag"
+        let of_node = (3..=7).contains(&tag) || tag == 10;
         let tag_fits = match fields {
             0 => tag == 1 || tag == 9,
             1 => tag == 2,
-            _ => (3..=7).contains(&tag) || tag == 10,
+            2 => of_node,
+            _ => (of_node || tag == 8) && task.named.is_none(),
         };
         if !tag_fits {
             return refuse(2);
         }
         // "a 257th node field"
-        if fields >= 2 && task.nodes.len() == MOST_NODES {
+        if of_node && task.nodes.len() == MOST_NODES {
             return refuse(3);
         }
         // "body length not in the tag's row"
@@ -165,9 +170,14 @@ pub fn judge(image: &[u8]) -> Result<Task, Refusal> {
         if children(tag, body).iter().any(|&child| child >= own) {
             return refuse(6);
         }
+        // "the number in tag 8 is not that of a node"
+        if tag == 8 && two_bytes(body) >= own {
+            return refuse(11);
+        }
         match tag {
             1 | 9 => task.bus = bus_of(tag, body),
             2 => task.starts = body.iter().map(|&o| o.into()).collect(),
+            8 => task.named = Some(two_bytes(body) as usize),
             _ => task.nodes.push(node(tag, body)),
         }
         place += 3 + length;
@@ -178,6 +188,7 @@ pub fn judge(image: &[u8]) -> Result<Task, Refusal> {
     if task.nodes.is_empty() {
         return refuse(7);
     }
+    // "Depth and visits are those of the node named."
     if depths(&task.nodes)[task.entry()] > MOST_DEPTH {
         return refuse(8);
     }
@@ -204,6 +215,7 @@ fn length_in_row(tag: u8, length: usize) -> bool {
         5 => (2..=32).contains(&length) && length % 2 == 0,
         6 => (4..=16).contains(&length) && length % 2 == 0,
         7 => length == 6,
+        8 => length == 2,
         9 => (3..=65).contains(&length) && length % 2 == 1,
         10 => length == 5,
         _ => false,
@@ -265,7 +277,7 @@ pub fn bus_of(tag: u8, body: &[u8]) -> Bus {
     Bus::new(body[2].into(), &slots, Some(slot))
 }
 
-/// The child numbers named by a field; none in a bus, starts or block field.
+/// The child numbers named by a field; none in a bus, starts, block or entry field.
 fn children(tag: u8, body: &[u8]) -> Vec<u64> {
     match tag {
         5 | 6 => body.chunks(2).map(two_bytes).collect(),

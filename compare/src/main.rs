@@ -18,9 +18,9 @@ mod report;
 mod runs;
 
 use child::{Feed, Watched};
-use generate::{hexadecimal, moved, Case, Expected};
+use generate::{has_entry, hexadecimal, moved, Case, Expected, NAMED};
 use image::MOST_BYTES;
-use reference::{Lines, Unequal, Way};
+use reference::{Lines, Named, Unequal, Way};
 use report::{Failure, Options, Tests};
 use std::collections::BTreeMap;
 use std::sync::atomic::{AtomicBool, AtomicUsize, Ordering};
@@ -54,10 +54,14 @@ struct Summary {
     unequal: Unequal,
     unequal_with_lines: usize,
     unequal_refused: BTreeMap<u64, usize>,
+    /// accepted images with tag 8, and refused ones by number
+    named: Named,
+    named_refused: BTreeMap<u64, usize>,
     /// what the program wrote in each test, by its number
     written: BTreeMap<usize, String>,
-    /// pairs of images that are one written either way: accepted and refused ones
+    /// pairs of images that are one written either way, and of those that are one without tag 8 and with it: accepted and refused ones
     pairs: (usize, usize),
+    named_pairs: (usize, usize),
 }
 
 /// Ways of giving an input other than all at once through a pipe.
@@ -73,17 +77,20 @@ fn specials() -> Vec<Test> {
     let refused = [twice.clone(), generate::plain(1, 0)].concat();
     let cut = twice[..twice.len() - 1].to_vec();
     let longest = cases::longest_image(cases::longest_schedule(), cases::longest_block(), 254);
+    let closed = [longest.clone(), generate::entry(1)].concat();
 
-    for image in [&twice, &refused, &cut] {
+    let named = [twice.clone(), generate::entry(0)].concat();
+    for image in [&twice, &refused, &cut, &named] {
         for size in [1, 2, 3, 4, 5, 7, 11] {
             add("in pieces", image, Feed::Pieces { size, pause });
         }
         add("in pieces", image, Feed::Pieces { size: 10, pause: Duration::from_millis(40) });
     }
-    for size in [97, 512, 1_000, 4_096, 8_192, 9_197, 9_259] {
+    for size in [97, 512, 1_000, 4_096, 8_192, 9_197, 9_259, 9_264] {
         add("in pieces", &longest, Feed::Pieces { size, pause });
         add("in pieces", &[&longest[..], &[3]].concat(), Feed::Pieces { size, pause });
         add("in pieces", &[&longest[..], &[3, 0, 4]].concat(), Feed::Pieces { size, pause });
+        add("in pieces", &closed, Feed::Pieces { size, pause });
     }
 
     // an input without end: what is judged are its first 16,384 bytes
@@ -93,13 +100,14 @@ fn specials() -> Vec<Test> {
     add("endless", &twice, Feed::Endless { again: generate::plain(1, 2) });
     add("endless", &longest, Feed::Endless { again: generate::plain(1, 2) });
     add("endless", &longest, Feed::Endless { again: vec![9; 70_000] });
+    add("endless", &closed, Feed::Endless { again: generate::entry(1) });
     // "reads at most 16,384 bytes": it does not wait for more
     add("left open", &vec![0; MOST_BYTES], Feed::LeftOpen);
     let mut full = longest.clone();
     full.resize(MOST_BYTES, 5);
     add("left open", &full, Feed::LeftOpen);
 
-    for image in [&twice, &refused, &longest, &full] {
+    for image in [&twice, &refused, &longest, &closed, &full] {
         add("from a file", image, Feed::FromFile { most: MOST_BYTES as u64 });
     }
     for size in [16_385, 20_000, 100_000] {
@@ -114,11 +122,11 @@ fn specials() -> Vec<Test> {
 
     // a read that fails is not the end of the input; where 16,384 bytes are read before it, it does not come up
     add("a read fails", &[], Feed::Folder);
-    for length in 0..=twice.len() {
-        add("a read fails", &twice[..length], Feed::Stalled);
+    for length in 0..=named.len() {
+        add("a read fails", &named[..length], Feed::Stalled);
     }
     full.resize(MOST_BYTES, 6);
-    for image in [&refused, &longest, &full[..MOST_BYTES - 1].to_vec(), &full] {
+    for image in [&refused, &longest, &closed, &full[..MOST_BYTES - 1].to_vec(), &full] {
         add("a read fails", image, Feed::Stalled);
     }
     tests
@@ -177,6 +185,7 @@ fn perform(number: usize, test: &Test, thread: usize, options: &Options, watched
     if let Some(task) = &answer.task {
         summary.unequal.count(task);
         summary.unequal_with_lines += usize::from(unequal && answer.lines != Lines::None);
+        summary.named.count(task);
     }
     if let Ok(output) = got {
         summary.written.insert(number, String::from_utf8_lossy(&output.written).into_owned());
@@ -185,6 +194,7 @@ fn perform(number: usize, test: &Test, thread: usize, options: &Options, watched
         Way::Refused(number) => {
             *summary.refused.entry(number).or_default() += 1;
             *summary.unequal_refused.entry(number).or_default() += usize::from(unequal);
+            *summary.named_refused.entry(number).or_default() += usize::from(has_entry(&test.case.image));
         }
         Way::Enumerated { runs } => {
             summary.enumerated += 1;
@@ -195,24 +205,30 @@ fn perform(number: usize, test: &Test, thread: usize, options: &Options, watched
     }
 }
 
-/// "An accepted image whose equal schedule is written either way gives equal answers": what the program itself wrote for both; of refused
-/// ones the place moves. The tests with images begin with this number.
+/// "An accepted image whose equal schedule is written either way gives equal answers", and so does one whose entry is named behind nodes
+/// that it does not reach: what the program itself wrote for both; of refused ones the place moves. The tests with images begin with this
+/// number.
 fn compare_pairs(tests: &[Test], first: usize, summary: &mut Summary) {
     for (number, test) in tests.iter().enumerate() {
         let Some(other) = test.case.same_as.map(|other| first + other) else { continue };
-        let (Some(with_1), Some(with_9)) = (summary.written.get(&other), summary.written.get(&number)) else { continue };
-        let expected = moved(with_1, test.case.image.len() - tests[other].case.image.len());
+        let (Some(one), Some(longer)) = (summary.written.get(&other), summary.written.get(&number)) else { continue };
+        let expected = moved(one, test.case.image.len() - tests[other].case.image.len());
         let refused = expected.starts_with("refused");
-        let failed = (expected != *with_9).then(|| Failure {
+        let (category, why, pairs) = if test.case.category == NAMED {
+            ("pairs with tag 8", "another answer than to the image without tag 8", &mut summary.named_pairs)
+        } else {
+            ("pairs either way", "another answer than to the image with tag 1", &mut summary.pairs)
+        };
+        pairs.0 += usize::from(!refused);
+        pairs.1 += usize::from(refused);
+        let failed = (expected != *longer).then(|| Failure {
             by_program: true,
-            why: "another answer than to the image with tag 1",
+            why,
             input: ("image", hexadecimal(&test.case.image)),
             expected,
-            got: with_9.clone(),
+            got: longer.clone(),
         });
-        summary.tests.tell(number, "pairs either way", failed);
-        summary.pairs.0 += usize::from(!refused);
-        summary.pairs.1 += usize::from(refused);
+        summary.tests.tell(number, category, failed);
     }
 }
 
@@ -277,19 +293,27 @@ fn main() {
     println!("refused by number: {}", by_number(&summary.refused));
     println!("accepted with tag 9: {}; with lines: {}", summary.unequal, summary.unequal_with_lines);
     println!("refused with tag 9 by number: {}", by_number(&summary.unequal_refused));
+    println!("accepted with tag 8: {}", summary.named);
+    println!("refused with tag 8 by number: {}", by_number(&summary.named_refused));
     println!("pairs written either way: {} accepted, {} refused", summary.pairs.0, summary.pairs.1);
+    println!("pairs without and with tag 8: {} accepted, {} refused", summary.named_pairs.0, summary.named_pairs.1);
     println!("not read whole: {}", summary.unread);
     // every answer of the papers that `figure` can give was met, and runs were enumerated; many images have lines, and many of these show
-    // whose exits are counted, and still more have none; many have slots of unequal length, of every kind, and as many have not
-    let each =
-        |refused: &BTreeMap<u64, usize>| (1..=9).chain([18]).all(|number| refused.get(&number).copied().unwrap_or(0) >= 10);
-    let each_refusal = each(&summary.refused) && each(&summary.unequal_refused);
+    // whose exits are counted, and still more have none; many have slots of unequal length, of every kind, and as many have not; many have
+    // their entry named, of every kind, and still more have not. Where a field with tag 8 stands, 7 cannot hold.
+    let each = |refused: &BTreeMap<u64, usize>, but: u64| {
+        let mut numbers = (1..=9).chain([11, 18]).filter(|&number| number != but);
+        numbers.all(|number| refused.get(&number).copied().unwrap_or(0) >= 10)
+    };
+    let each_refusal = each(&summary.refused, 0) && each(&summary.unequal_refused, 0) && each(&summary.named_refused, 7);
     let accepted = summary.enumerated + summary.calculated;
     let lines = summary.with_lines >= 1_000 && summary.wider >= 500 && summary.with_lines * 2 <= accepted;
     let unequal = summary.unequal.met(50) && summary.unequal.all >= 2_000 && summary.unequal.all * 3 <= accepted * 2;
     let schedules = unequal && summary.unequal_with_lines >= 500 && summary.pairs.0 >= 300 && summary.pairs.1 >= 300;
+    let named = summary.named.met(50) && summary.named.not_last >= 1_000 && summary.named.all * 2 <= accepted;
+    let entries = named && summary.named_pairs.0 >= 300 && summary.named_pairs.1 >= 30;
     let ways = summary.enumerated >= 500 && summary.calculated >= 100 && summary.unread >= 20;
-    let met = each_refusal && lines && schedules && ways;
+    let met = each_refusal && lines && schedules && entries && ways;
     let pairs = tests.iter().filter(|test| test.case.same_as.is_some()).count();
     summary.tests.close(tests.len() + pairs, &[(met, "too few images of some kind")], LEAST_PASSED);
 }

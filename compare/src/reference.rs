@@ -1,6 +1,6 @@
-//! What `figure` has to write for an input, by this folder's own reading of document 01 and of change requests W5 and W9.
+//! What `figure` has to write for an input, by this folder's own reading of document 01 and of change requests W1, W5 and W9.
 
-use crate::image::{judge, Node, Task, MOST_BYTES};
+use crate::image::{depths, judge, visits, Node, Task, MOST_BYTES, MOST_DEPTH, MOST_VISITS};
 use crate::{offsets, runs};
 use std::fmt;
 
@@ -65,6 +65,46 @@ impl fmt::Display for Unequal {
         write!(to, "{}, of them with several stretches: {}", self.all, self.several)?;
         write!(to, ", an access longer than one of them: {}", self.passed_over)?;
         write!(to, ", one round the period: {}, every cycle owned: {}, period 1: {}", self.round, self.every, self.period_1)
+    }
+}
+
+/// Accepted images with tag 8: all, and those of them whose entry is not the last node, is the first and not the last, stands below a node
+/// that is too deep or too long for an entry, and below all nodes with the highest line number.
+#[derive(Default)]
+pub struct Named {
+    pub all: usize,
+    pub not_last: usize,
+    pub first: usize,
+    pub heavy: usize,
+    pub lines: usize,
+}
+
+impl Named {
+    pub fn count(&mut self, task: &Task) {
+        if task.named.is_none() {
+            return;
+        }
+        let (entry, nodes) = (task.entry(), &task.nodes);
+        let deep = depths(nodes)[entry..].iter().any(|&depth| depth > MOST_DEPTH);
+        let long = visits(nodes)[entry..].iter().any(|&all| all > MOST_VISITS);
+        let to_entry = Task { nodes: nodes[..=entry].to_vec(), ..task.clone() };
+        self.all += 1;
+        self.not_last += usize::from(entry + 1 < nodes.len());
+        self.first += usize::from(entry == 0 && nodes.len() > 1);
+        self.heavy += usize::from(deep || long);
+        self.lines += usize::from(to_entry.lines() < task.lines());
+    }
+
+    /// Whether so many of each were met.
+    pub fn met(&self, least: usize) -> bool {
+        [self.not_last, self.first, self.heavy, self.lines].into_iter().all(|met| met >= least)
+    }
+}
+
+impl fmt::Display for Named {
+    fn fmt(&self, to: &mut fmt::Formatter) -> fmt::Result {
+        write!(to, "{}, of them not of the last node: {}, of the first: {}", self.all, self.not_last, self.first)?;
+        write!(to, ", below one too deep or too long: {}, below the highest line: {}", self.heavy, self.lines)
     }
 }
 

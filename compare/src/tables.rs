@@ -171,10 +171,10 @@ fn main() {
     println!("runs of images: {}, of them the longest from their offset: {}", summary.runs, summary.longest);
     let with_lines: usize = graphs.iter().map(Graph::with_lines).sum();
     let with_pairs: usize = graphs.iter().map(Graph::with_pairs).sum();
+    let with_entry: usize = graphs.iter().map(Graph::with_entry).sum();
     let shared = graphs.iter().filter(|graph| graph.shared()).count();
-    println!(
-        "images of graphs with lines: {with_lines}; with tag 9: {with_pairs}; graphs with tag 9 for several cores: {shared}"
-    );
+    println!("images of graphs with lines: {with_lines}; with tag 8: {with_entry}; with tag 9: {with_pairs}");
+    println!("graphs with tag 9 for several cores: {shared}");
     println!(
         "graphs with a task that ended late: {} of {}; with one start listed: {} of {}",
         summary.every.0, summary.every.1, summary.one.0, summary.one.1
@@ -183,7 +183,7 @@ fn main() {
     let half = accepted * 10 >= summary.random * 4 && accepted * 10 <= summary.random * 7;
     let every_place = summary.refused.len() == MOST_TASKS;
     let clocks = summary.by_cycles >= 1_000 && summary.longest >= 1_000;
-    let images = with_lines >= 300 && with_pairs >= 300 && shared >= 50;
+    let images = with_lines >= 300 && with_entry >= 300 && with_pairs >= 300 && shared >= 50;
     let met = half && images && summary.sizes.len() == MOST_TASKS && every_place && clocks;
     // the control that a late task is seen
     let seen = summary.one.0 > 0;

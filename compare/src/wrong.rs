@@ -50,6 +50,9 @@ struct Image {
     stretches: Vec<Option<usize>>,
     starts: Vec<u64>,
     nodes: Vec<Node>,
+    /// the number in tag 8, where there is one
+    named: Option<u64>,
+    entry: usize,
 }
 
 /// Of offsets, of lines, or of node numbers.
@@ -153,6 +156,7 @@ fn read_input(fault: &Fault) -> Vec<u8> {
     let most = match fault.0.as_str() {
         "stops-at-9198" => 9_198,
         "stops-at-9260" => 9_260,
+        "stops-at-9265" => 9_265,
         _ => 16_384,
     };
     let mut buffer = vec![0; most];
@@ -206,28 +210,48 @@ enum Check {
     Cut,
     Value,
     Forward,
+    Entry,
 }
 
 /// Whether a field with this tag may be that of a node.
 fn node_tag(fault: &Fault, tag: u8) -> bool {
     match tag {
         3..=7 => true,
-        8 | 9 => fault.is("tags-to-10"),
+        9 => fault.is("tags-to-10"),
         10 => !fault.is("tag-10-refused"),
         11 => fault.is("tag-11-accepted"),
         _ => false,
     }
 }
 
+/// Whether a field with this tag may stand behind the starts.
+fn later_tag(fault: &Fault, image: &Image, tag: u8) -> bool {
+    if image.named.is_some() {
+        return match fault.0.as_str() {
+            "entry-then-node" => node_tag(fault, tag),
+            "entry-twice" | "entry-twice-first" => tag == 8,
+            _ => false,
+        };
+    }
+    match tag {
+        8 if image.nodes.is_empty() => fault.is("entry-before-nodes") || fault.is("entry-before-nodes-is-11"),
+        8 => !fault.is("tag-8-refused"),
+        9 if fault.is("schedule-passed-over") => true,
+        _ => node_tag(fault, tag),
+    }
+}
+
 fn judge(fault: &Fault, bytes: &[u8]) -> Result<Image, Refusal> {
     use Check::*;
     let order = match fault.0.as_str() {
-        "full-before-tag" => [Full, Tag, Length, Cut, Value, Forward],
-        "length-before-full" => [Tag, Length, Full, Cut, Value, Forward],
-        "cut-before-length" => [Tag, Full, Cut, Length, Value, Forward],
-        "value-before-cut" => [Tag, Full, Length, Value, Cut, Forward],
-        "forward-before-value" => [Tag, Full, Length, Cut, Forward, Value],
-        _ => [Tag, Full, Length, Cut, Value, Forward],
+        "full-before-tag" => [Full, Tag, Length, Cut, Value, Forward, Entry],
+        "length-before-full" => [Tag, Length, Full, Cut, Value, Forward, Entry],
+        "cut-before-length" => [Tag, Full, Cut, Length, Value, Forward, Entry],
+        "value-before-cut" => [Tag, Full, Length, Value, Cut, Forward, Entry],
+        "forward-before-value" => [Tag, Full, Length, Cut, Forward, Value, Entry],
+        "entry-before-cut" => [Tag, Full, Length, Entry, Cut, Value, Forward],
+        "entry-before-length" => [Tag, Full, Entry, Length, Cut, Value, Forward],
+        _ => [Tag, Full, Length, Cut, Value, Forward, Entry],
     };
     let mut image = Image::default();
     let mut place = 0;
@@ -244,12 +268,18 @@ fn judge(fault: &Fault, bytes: &[u8]) -> Result<Image, Refusal> {
             0 => tag == 1 && !fault.is("tag-1-refused") || tag == 9 && !fault.is("tag-9-refused"),
             1 if tag == 1 || tag == 9 => fault.is("second-schedule"),
             1 => tag == 2 || fault.is("second-tag-free") && node_tag(fault, tag),
-            _ if tag == 9 && fault.is("schedule-passed-over") => true,
-            _ => node_tag(fault, tag),
+            _ => later_tag(fault, &image, tag),
         };
+        let closed = image.named.is_some();
+        if closed && fault.is("entry-behind-unjudged") {
+            break;
+        }
         if rest.len() < 3 {
-            if fault.is("trailing-ignored") && !image.nodes.is_empty() {
+            if fault.is("trailing-ignored") && !image.nodes.is_empty() || fault.is("entry-trailing-ignored") && closed {
                 break;
+            }
+            if fault.is("entry-trailing-is-tag") && closed {
+                return Err((2, shown));
             }
             if fault.is("trailing-unfinished") {
                 return Err((7, bytes.len()));
@@ -270,18 +300,31 @@ fn judge(fault: &Fault, bytes: &[u8]) -> Result<Image, Refusal> {
         if tag == 9 && number == 0 && there < length && fault.is("schedule-cut-unfinished") {
             return Err((7, bytes.len()));
         }
+        if tag == 8 && tag_good && there < length && fault.is("entry-cut-passed-over") {
+            break;
+        }
         for check in order {
             let (refusal, holds) = match check {
+                Tag if closed && node_tag(fault, tag) => match fault.0.as_str() {
+                    "entry-then-full" if image.nodes.len() == 256 => (3, true),
+                    "entry-then-length" if !length_good(fault, tag, length) => (4, true),
+                    _ => (2, !tag_good),
+                },
                 Tag => (2, !tag_good),
                 Full if tag == 10 && fault.is("fetch-257-accepted") => (3, false),
+                Full if tag == 8 && !fault.is("entry-counts-as-node") => (3, false),
                 Full => (3, number >= 2 && image.nodes.len() >= nodes_most),
                 Length => (4, !length_good(fault, tag, length)),
                 Cut => (1, there < length),
                 Value if tag == 9 && fault.is("schedule-value-as-length") => (4, !schedule_good(fault, &body, length)),
                 Value => (5, !value_good(fault, &image, tag, &body[..length.max(6)], length)),
                 Forward => (6, !children_good(fault, image.nodes.len() as u64, tag, &body, length)),
+                Entry => (11, tag == 8 && !fault.is("entry-judged-at-end") && !entry_good(fault, &image, &body, length)),
             };
-            if holds && refusal >= 5 && number >= 2 && fault.is("unreached-unjudged") {
+            if holds && refusal == 11 {
+                return Err(entry_refusal(fault, &image, shown, bytes.len()));
+            }
+            if holds && refusal >= 5 && number >= 2 && (fault.is("unreached-unjudged") || fault.is("above-entry-unjudged")) {
                 put_off = put_off.or(Some((refusal, shown)));
             } else if holds && refusal == 5 && tag == 9 && fault.is("schedule-place-of-pair") {
                 return Err((refusal, shown + 4 + 2 * bad_pair(&body, length)));
@@ -298,6 +341,8 @@ fn judge(fault: &Fault, bytes: &[u8]) -> Result<Image, Refusal> {
                 image.stretches.clear();
             }
             9 if number >= 2 => {}
+            8 if image.nodes.is_empty() || closed && fault.is("entry-twice-first") => {}
+            8 => image.named = Some(entry_number(fault, &body, length)),
             9 => own_stretches(fault, &mut image, &body, length),
             2 => image.starts = body[..length].iter().map(|&start| start.into()).collect(),
             _ => {
@@ -331,17 +376,30 @@ fn judge(fault: &Fault, bytes: &[u8]) -> Result<Image, Refusal> {
     if image.starts.is_empty() {
         image.starts.push(0);
     }
-    let mut reached: Set = [image.nodes.len() as u64 - 1].into_iter().collect();
+    if image.named.is_some_and(|named| named >= image.nodes.len() as u64) && fault.is("entry-judged-at-end") {
+        return Err((11, bytes.len() - 5));
+    }
+    image.entry = entry_of(fault, &image);
+    let mut reached: Set = [image.entry as u64].into_iter().collect();
     for number in (0..image.nodes.len()).rev() {
         if reached.contains(&(number as u64)) {
             reached.extend(image.nodes[number].children.iter().map(|&child| child as u64));
         }
     }
-    let put_off = image.nodes.iter().enumerate().filter(|(number, _)| reached.contains(&(*number as u64)));
+    let put_off = image.nodes.iter().enumerate().filter(|(number, _)| match fault.0.as_str() {
+        "above-entry-unjudged" => *number <= image.entry,
+        _ => reached.contains(&(*number as u64)),
+    });
     if let Some(refusal) = put_off.filter_map(|(_, node)| node.refusal).next() {
         return Err(refusal);
     }
-    let place = if fault.is("place-of-entry") { image.nodes[image.nodes.len() - 1].place } else { bytes.len() };
+    // the field with tag 8 left out
+    let before = bytes.len() - if image.named.is_some() { 5 } else { 0 };
+    let place = match fault.0.as_str() {
+        "place-of-entry" => image.nodes[image.entry].place,
+        "place-of-entry-field" => before,
+        _ => bytes.len(),
+    };
     let (deep, long, wide) = (deep(fault, &image), long(fault, &image), wide(fault, &image, &reached));
     let lines = (
         match fault.0.as_str() {
@@ -351,7 +409,8 @@ fn judge(fault: &Fault, bytes: &[u8]) -> Result<Image, Refusal> {
         },
         match fault.0.as_str() {
             "lines-place-0" => 0,
-            "lines-place-entry" => image.nodes[image.nodes.len() - 1].place,
+            "lines-place-entry" => image.nodes[image.entry].place,
+            "lines-place-entry-field" => before,
             "lines-place-node" => {
                 image.nodes.iter().filter(|node| node.tag == 10).max_by_key(|node| node.line).map_or(0, |node| node.place)
             }
@@ -367,11 +426,85 @@ fn judge(fault: &Fault, bytes: &[u8]) -> Result<Image, Refusal> {
     order.into_iter().find(|(holds, _)| *holds).map_or(Ok(image), |(_, refusal)| Err(refusal))
 }
 
+/// The number in tag 8.
+fn entry_number(fault: &Fault, body: &[u8], length: usize) -> u64 {
+    match fault.0.as_str() {
+        "entry-in-a-byte" => body[1].into(),
+        "entry-of-high-byte" => body[0].into(),
+        "entry-low-byte-first" => body[1] as u64 * 256 + body[0] as u64,
+        "entry-length-1" if length == 1 => body[0].into(),
+        _ => two_bytes(fault, body),
+    }
+}
+
+/// Whether the number in tag 8 counts as that of a node.
+fn entry_good(fault: &Fault, image: &Image, body: &[u8], length: usize) -> bool {
+    let (number, count) = (entry_number(fault, body, length), image.nodes.len() as u64);
+    let node = image.nodes.get(number as usize);
+    let named = |other: &Node| other.children.contains(&(number as usize));
+    match fault.0.as_str() {
+        "entry-before-nodes" if count == 0 => true,
+        "entry-count-accepted" => number <= count,
+        "entry-unjudged" => true,
+        "entry-below-256" => number < 256,
+        "entry-256-accepted" => number < count || number == 256,
+        "entry-65535-accepted" => number < count || number == 65_535,
+        "entry-0-refused" => number > 0 && number < count,
+        "entry-last-refused" => number + 1 < count,
+        "entry-255-refused" => number < count && number != 255,
+        "entry-other-refused" => number + 1 == count,
+        "entry-block-refused" => node.is_some_and(|node| !node.children.is_empty()),
+        "entry-fetch-refused" => node.is_some_and(|node| node.tag != 10),
+        "entry-child-refused" => number < count && !image.nodes.iter().any(named),
+        "entry-from-1" => number >= 1 && number <= count,
+        "entry-of-fields" => number >= 2 && number < count + 2,
+        _ => number < count,
+    }
+}
+
+/// What is answered where it does not: number and place.
+fn entry_refusal(fault: &Fault, image: &Image, shown: usize, length: usize) -> Refusal {
+    let number = match fault.0.as_str() {
+        "entry-as-tag" => 2,
+        "entry-as-value" => 5,
+        "entry-as-forward" => 6,
+        "entry-as-unfinished" => 7,
+        "entry-number-10" => 10,
+        _ => 11,
+    };
+    let place = match fault.0.as_str() {
+        "entry-place-length" => length,
+        "entry-place-body" => shown + 3,
+        "entry-place-0" => 0,
+        "entry-place-node" => image.nodes.last().map_or(0, |last| last.place),
+        _ => shown,
+    };
+    (number, place)
+}
+
+/// The entry of an image whose fields are good. A node that is not there, which a fault let through, is the last.
+fn entry_of(fault: &Fault, image: &Image) -> usize {
+    let last = image.nodes.len() as u64 - 1;
+    let Some(number) = image.named else { return if fault.is("entry-first-unnamed") { 0 } else { last as usize } };
+    let entry = match fault.0.as_str() {
+        "entry-last" => last,
+        "entry-first" => 0,
+        "entry-next" => number + 1,
+        "entry-from-1" => number.saturating_sub(1),
+        "entry-of-fields" => number.saturating_sub(2),
+        "entry-from-the-end" => last.saturating_sub(number),
+        "entry-in-7-bits" => number % 128,
+        _ => number,
+    };
+    entry.min(last) as usize
+}
+
 /// Whether there are too many lines for the period.
 fn wide(fault: &Fault, image: &Image, reached: &Set) -> bool {
     let all = image.nodes.iter().enumerate().filter(|(_, node)| node.tag == 10);
     let numbers: Vec<u64> = all
         .filter(|(number, _)| reached.contains(&(*number as u64)) || !fault.is("lines-reached-only"))
+        .filter(|(number, _)| *number <= image.entry || !fault.is("lines-to-entry"))
         .map(|(_, node)| node.line)
         .collect();
     let lines = match fault.0.as_str() {
@@ -414,6 +547,13 @@ fn length_good(fault: &Fault, tag: u8, length: usize) -> bool {
         6 if fault.is("one-arm") => length >= 2 && length <= 16 && length % 2 == 0,
         6 => length >= 4 && length <= 16 && length % 2 == 0,
         7 => length == 6,
+        8 => match fault.0.as_str() {
+            "entry-length-1" => length == 1 || length == 2,
+            "entry-length-3" => length == 2 || length == 3,
+            "entry-length-in-a-byte" => length % 256 == 2,
+            "entry-any-length" => length >= 2,
+            _ => length == 2,
+        },
         9 => match fault.0.as_str() {
             "schedule-even-length" => length >= 3 && length <= 65,
             "schedule-length-66" => length >= 3 && length <= 66 && (length % 2 == 1 || length == 66),
@@ -718,10 +858,12 @@ fn deep(fault: &Fault, image: &Image) -> bool {
         };
         depths.push(if fault.is("depth-in-a-byte") { depth % 256 } else { depth });
     }
-    if fault.is("depth-of-all") {
-        return depths.iter().any(|&depth| depth > most);
+    match fault.0.as_str() {
+        "depth-of-all" => depths.iter().any(|&depth| depth > most),
+        "depth-to-entry" => depths[..=image.entry].iter().any(|&depth| depth > most),
+        "depth-of-last" => depths[depths.len() - 1] > most,
+        _ => depths[image.entry] > most,
     }
-    depths[depths.len() - 1] > most
 }
 
 fn long(fault: &Fault, image: &Image) -> bool {
@@ -757,10 +899,12 @@ fn long(fault: &Fault, image: &Image) -> bool {
             _ => all.min(1 << 40),
         });
     }
-    if fault.is("visits-of-all") {
-        return visits.iter().any(|&visits| visits > most);
+    match fault.0.as_str() {
+        "visits-of-all" => visits.iter().any(|&visits| visits > most),
+        "visits-to-entry" => visits[..=image.entry].iter().any(|&visits| visits > most),
+        "visits-of-last" => visits[visits.len() - 1] > most,
+        _ => visits[image.entry] > most,
     }
-    visits[visits.len() - 1] > most
 }
 
 /// Whether an access may start with tag 9: all its cycles belong to one stretch of the core.
@@ -1295,18 +1439,18 @@ fn cost(fault: &Fault, image: &Image, number: usize, entry: &BTreeSet<State>) ->
 
 /// The states after all runs, with no line fetched at first.
 fn from_starts(fault: &Fault, image: &Image, starts: &[u64]) -> Times {
-    execute(fault, image, image.nodes.len() - 1, &starts.iter().map(|&start| ((start, Set::new()), 0)).collect())
+    let entry = if fault.is("tight-of-last") { image.nodes.len() - 1 } else { image.entry };
+    execute(fault, image, entry, &starts.iter().map(|&start| ((start, Set::new()), 0)).collect())
 }
 
 /// The published figure, and its exit set.
 fn published(fault: &Fault, image: &Image, starts: &[u64]) -> (u64, Set) {
-    let entry = starts.iter().map(|&start| (start, Set::new())).collect();
-    let (all, exits) = cost(fault, image, image.nodes.len() - 1, &entry);
+    let node = if fault.is("published-of-last") { image.nodes.len() - 1 } else { image.entry };
+    let (all, exits) = cost(fault, image, node, &starts.iter().map(|&start| (start, Set::new())).collect());
     (all, exits.into_iter().map(|(offset, _)| offset).collect())
 }
 
 fn figures(fault: &Fault, image: &Image) -> String {
-    let entry = image.nodes.len() - 1;
     let starts: Vec<u64> = match fault.0.as_str() {
         "first-start-only" => image.starts[..1].to_vec(),
         _ => image.starts.clone(),
@@ -1319,7 +1463,7 @@ fn figures(fault: &Fault, image: &Image) -> String {
         after = Times::new();
         for &start in &starts {
             let known = some_fetched(&after);
-            for (state, time) in execute(fault, image, entry, &[((start, known), 0)].into_iter().collect()) {
+            for (state, time) in execute(fault, image, image.entry, &[((start, known), 0)].into_iter().collect()) {
                 keep(fault, &mut after, state, time);
             }
         }

@@ -20,7 +20,7 @@ pub fn run(fault: &Fault) {
         let Some(edit) = read(line) else { return Said::Wrong };
         match edit.bytes.len() {
             0 if fault.is("edits-empty-unanswered") => Said::Nothing,
-            9_260 if fault.is("edits-killed-at-longest") => Said::Killed,
+            9_265 if fault.is("edits-killed-at-longest") => Said::Killed,
             _ => Said::Line(answer(fault, &edit)),
         }
     });
@@ -37,7 +37,7 @@ fn read(line: &str) -> Option<Edit> {
     Some(Edit { bytes, node, lowest, highest, places })
 }
 
-/// The place and the tag of each node field, as far as lengths lead.
+/// The place and the tag of each node field, as far as lengths lead. One with tag 8 is none.
 fn nodes(fault: &Fault, bytes: &[u8]) -> Vec<(usize, u8)> {
     let mut fields = Vec::new();
     let mut place = 0;
@@ -49,7 +49,19 @@ fn nodes(fault: &Fault, bytes: &[u8]) -> Vec<(usize, u8)> {
         };
     }
     fields.drain(..fields.len().min(2));
+    fields.retain(|field| field.1 != 8);
     fields
+}
+
+/// The entry's field, where the image is accepted.
+fn entry(edit: &Edit) -> Option<usize> {
+    let image = judge(&Fault::default(), &edit.bytes).ok()?;
+    Some(image.nodes[image.entry].place)
+}
+
+/// Whether tag 8 closes the image.
+fn has_entry(edit: &Edit) -> bool {
+    judge(&Fault::default(), &edit.bytes).is_ok_and(|image| image.named.is_some())
 }
 
 /// The period that field 1 says, good or not.
@@ -97,7 +109,7 @@ fn block_good(fault: &Fault, edit: &Edit, (place, tag): (usize, u8)) -> bool {
     let reached = || {
         let Ok(image) = judge(&Fault::default(), &edit.bytes) else { return true };
         let mut reached = vec![false; image.nodes.len()];
-        reached[image.nodes.len() - 1] = true;
+        reached[image.entry] = true;
         for number in (0..image.nodes.len()).rev() {
             if reached[number] {
                 image.nodes[number].children.iter().for_each(|&child| reached[child] = true);
@@ -112,7 +124,9 @@ fn block_good(fault: &Fault, edit: &Edit, (place, tag): (usize, u8)) -> bool {
         "edits-loop-edited" => tag == 3 || tag == 7,
         "edits-fetch-edited" => tag == 3 || tag == 10,
         "edits-unreached-refused" => tag == 3 && reached(),
-        "edits-entry-refused" => tag == 3 && place + 7 < edit.bytes.len(),
+        "edits-entry-refused" => tag == 3 && entry(edit) != Some(place),
+        "edits-named-entry-refused" => tag == 3 && !(has_entry(edit) && entry(edit) == Some(place)),
+        "edits-above-entry-refused" => tag == 3 && entry(edit).is_none_or(|entry| place <= entry),
         _ => tag == 3,
     }
 }
@@ -203,6 +217,7 @@ fn refusal(fault: &Fault, edit: &Edit, preview: bool) -> Option<(Check, Refusal)
                     "edits-place-of-block-0" => 0,
                     "edits-place-of-block-node" => edit.node,
                     "edits-place-of-block-last" => nodes(fault, &edit.bytes).last().map_or(0, |node| node.0 as u64),
+                    "edits-place-of-block-tag-8" if has_entry(edit) => length - 5,
                     _ => length,
                 };
                 let number = match fault.0.as_str() {
@@ -239,6 +254,7 @@ fn refusal(fault: &Fault, edit: &Edit, preview: bool) -> Option<(Check, Refusal)
                     "edits-place-of-table-places" => edit.places,
                     "edits-place-of-table-0" => 0,
                     "edits-place-of-table-field" => field,
+                    "edits-place-of-table-tag-8" if has_entry(edit) => length - 5,
                     _ => length,
                 };
                 let judged = preview || fault.is("edits-table-in-edit");
@@ -267,9 +283,21 @@ fn own(fault: &Fault, edit: &Edit, preview: bool) -> Option<Refusal> {
             _ => {}
         }
     }
+    if has_entry(edit) {
+        let length = edit.bytes.len() as u64;
+        match fault.0.as_str() {
+            "edits-tag-8-refused" => return Some((2, length - 5)),
+            "edits-tag-8-unedited" if !preview => return Some((2, length - 5)),
+            "edits-tag-8-unpreviewed" if preview => return Some((2, length - 5)),
+            _ => {}
+        }
+    }
     let (number, place) = judge(&Fault::default(), &edit.bytes).err()?;
     let place = place as u64;
     match fault.0.as_str() {
+        "edits-entry-unjudged" if number == 11 && !preview => None,
+        "edits-entry-is-19" if number == 11 => Some((19, edit.bytes.len() as u64)),
+        "edits-entry-placed-length" if number == 11 => Some((number, edit.bytes.len() as u64)),
         "edits-tag-9-unjudged" if place == 0 && number == 5 && edit.bytes[0] == 9 && !preview => None,
         "edits-own-number-19" => Some((19, edit.bytes.len() as u64)),
         "edits-own-place-length" => Some((number, edit.bytes.len() as u64)),
@@ -360,6 +388,14 @@ fn written(fault: &Fault, edit: &Edit, refused: Option<Check>) -> Vec<u8> {
             put(&mut after, (body + 6).saturating_sub(field_1(edit)), &four(lowest, highest));
         }
         "edits-pairs-cleared" if bytes[0] == 9 => put(&mut after, 6, &[0, 0]),
+        "edits-tag-8-unwritten" if has_entry(edit) => after = bytes.clone(),
+        "edits-above-entry-unwritten" if entry(edit).is_some_and(|entry| place > entry) => after = bytes.clone(),
+        "edits-entry-written" => {
+            after = bytes.clone();
+            entry(edit).iter().for_each(|entry| put(&mut after, entry + 3, &four(lowest, highest)));
+        }
+        "edits-entry-cleared" if has_entry(edit) => put(&mut after, bytes.len() - 2, &[0, 0]),
+        "edits-entry-renamed" if has_entry(edit) => put(&mut after, bytes.len() - 1, &[edit.node as u8]),
         "edits-one-byte-late" => {
             after = bytes.clone();
             put(&mut after, body + 1, &four(lowest, highest));
@@ -427,6 +463,11 @@ fn previewed(fault: &Fault, edit: &Edit) -> Result<Figures, (u64, usize)> {
     if fault.is("edits-preview-of-first-stretch") {
         image = of_first_stretch(&image);
     }
+    image.entry = match fault.0.as_str() {
+        "edits-preview-of-last" => image.nodes.len() - 1,
+        "edits-preview-of-block" if image.named.is_some() => block.unwrap_or(image.entry),
+        _ => image.entry,
+    };
     let mut new_figures = figures(&image);
     let old_figures = figures(&before);
     match fault.0.as_str() {
