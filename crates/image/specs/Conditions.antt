@@ -30,7 +30,7 @@ pub data Ending (s : List ℕ) (nodes entry : ℕ) : Type 0 where
 pub data Condition (s : List ℕ) : Refusal → ℕ → Type 0 where
   -- 1: "1 or 2 bytes left where a field's head should stand"
   head-cut : (k : ℕ) → Passed s k → fieldAt s k < length s → length s < fieldAt s k + 3 → Condition s Cut (fieldAt s k)
-  -- 2: "the first field's tag is not 1, the second's not 2, or a later one's not 3 to 7", nor 8 of W1, 9 of W5 and 10 of W9
+  -- 2: "the first field's tag is not 1, the second's not 2, or a later one's not 3 to 7", nor 8 of W1, 9 of W5 and 10 of W9; or the field stands behind tag 8
   wrong-tag : (k : ℕ) → Passed s k → UpToHead s k → (TagRule k (closedAt s k) (tagAt s k) → ⊥) → Condition s Tag (fieldAt s k)
   -- 3: "a 257th node field"
   one-more : (k : ℕ) → Passed s k → UpToTag s k → (RoomRule k (tagAt s k) → ⊥) → Condition s Full (fieldAt s k)
