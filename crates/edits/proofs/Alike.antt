@@ -6,6 +6,7 @@ use native.Mathlib.Nat.{not-suc-le-zero}
 use Prim.Native.Nat.{ℕ, zero, suc, _+_, _*_, _<_, max}
 use Rattle.runs.specs.Nodes.{Node, Tree, trees, treeBy, tree, All, Children, depth, deepest, visits, visitsAll, nodeLines, linesTo}
 use Rattle.runs.proofs.Trees.{tree-is, children-map}
+use Rattle.nodes.proofs.Fetches.{lines-alike}
 
 -- the same weight
 pub record Equally (t u : Tree) : Type 0 where
@@ -67,6 +68,4 @@ line-same _ _ (same x) = refl
 line-same _ _ (plains lo hi lo' hi') = refl
 
 pub lines-same : (a b : ℕ → Node) (n : ℕ) → ((i : ℕ) → i < n → Alike (a i) (b i)) → linesTo a n ≡ linesTo b n
-unfolding linesTo
-lines-same a b zero h = refl
-lines-same a b (suc n) h = ap₂ max (lines-same a b n (λ i l. h i (omega arith))) (line-same (a n) (b n) (h n (omega arith)))
+lines-same a b n h = lines-alike a b n (λ i l. line-same (a i) (b i) (h i l))

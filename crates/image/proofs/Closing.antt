@@ -7,6 +7,7 @@ use native.Mathlib.Omega.{arith}
 use borrow.Author.Tests.{ne-eqb}
 use Prim.Native.Nat.{ℕ, suc, _+_, _-_, _≤_, _<_}
 use Rattle.runs.specs.Bus.{Bus}
+use Rattle.runs.specs.Nodes.{nodeLines}
 use Rattle.runs.proofs.Trees.{tree-alike}
 use Rattle.bytes.specs.Bytes.{byteAt, wordAt}
 use Rattle.bytes.proofs.Agreeing.{Agree, agree-bytes, ahead, behind}
@@ -139,7 +140,7 @@ module _ (s : List ℕ) (k : Outline) (a : Accepting s k) (none : EndsInANode s 
     short = rw tree-same (a .short);
     period = a .period ∙ sym (ap (λ (b : Bus). b .period) said-same);
     starts = a .starts ∙ sym starts-many;
-    lines = a .lines ∙ sym (lines-alike s e n node-same);
+    lines = a .lines ∙ sym (lines-alike (nodeAt e) (nodeAt s) n (λ i l. ap nodeLines (node-same i l)));
     sets = a .sets;
     narrow = a .narrow;
   }

@@ -1,12 +1,12 @@
 -- The number of lines: every node's line is below it, and it is at most 4.
-use mathlib.Core.Path.{_≡_, refl, ap, ap₂}
+use mathlib.Core.Path.{_≡_, refl, ap₂}
 use mathlib.Core.List.{List}
 use Prim.Native.Nat.{ℕ, zero, suc, _+_, _≤_, _<_, max}
 use native.Mathlib.Nat.{not-suc-le-zero, le-of-suc-le-suc}
 use native.Mathlib.Omega.{arith}
 use Rattle.runs.proofs.Cases.{split}
 use Rattle.runs.specs.Lines.{power}
-use Rattle.runs.specs.Nodes.{nodeLines, linesTo}
+use Rattle.runs.specs.Nodes.{Node as RunNode, nodeLines, linesTo}
 use Rattle.nodes.specs.Nodes.{meant, nodeAt, linesOf}
 use Rattle.rows.specs.Unclosed.{Unclosed}
 use Rattle.nodes.specs.Fine.{Fine}
@@ -42,11 +42,11 @@ line-below s k (suc n) h =
 pub no-lines : (s : List ℕ) (n : ℕ) → linesOf s n ≡ 0 → (k : ℕ) → k < n → nodeLines (nodeAt s k) ≡ 0
 no-lines s n e k h = omega (arith, line-below s k n h)
 
--- images whose nodes are the same have as many
-pub lines-alike : (s e : List ℕ) (n : ℕ) → ((k : ℕ) → k < n → nodeAt e k ≡ nodeAt s k) → linesOf e n ≡ linesOf s n
+-- nodes that have the same lines one by one have as many together
+pub lines-alike : (a b : ℕ → RunNode) (n : ℕ) → ((k : ℕ) → k < n → nodeLines (a k) ≡ nodeLines (b k)) → linesTo a n ≡ linesTo b n
 unfolding linesTo
-lines-alike s e zero h = refl
-lines-alike s e (suc n) h = ap₂ max (lines-alike s e n (λ k l. h k (omega arith))) (ap nodeLines (h n (omega arith)))
+lines-alike a b zero h = refl
+lines-alike a b (suc n) h = ap₂ max (lines-alike a b n (λ k l. h k (omega arith))) (h n (omega arith))
 
 -- there are at most 16 sets
 pub few-sets : (x : ℕ) → x ≤ 4 → power x ≤ 16
