@@ -36,7 +36,10 @@ module _ (f g : ℕ → Tree) where
   node-same (Node.once x lo hi hit) h = record { deep = refl; long = refl }
   node-same (Node.sequence ns) h = record { deep = ap (λ (n : ℕ). 1 + n) (deepest-same ns h); long = ap (λ (n : ℕ). 1 + n) (visits-same ns h) }
   node-same (Node.branch ns) h = record { deep = ap (λ (n : ℕ). 1 + n) (deepest-same ns h); long = ap (λ (n : ℕ). 1 + n) (visits-same ns h) }
-  node-same (Node.loop least greatest body) h = record { deep = ap (λ (n : ℕ). 1 + n) (h .deep); long = ap (λ (n : ℕ). 1 + greatest * n) (h .long) }
+  node-same (Node.loop least greatest body test) h = record {
+    deep = ap₂ (λ (n m : ℕ). 1 + max n m) (h .0 .deep) (h .1 .deep);
+    long = ap₂ (λ (n m : ℕ). 1 + greatest * (n + m) + m) (h .0 .long) (h .1 .long);
+  }
 
   alike-same : (x y : Node) → Alike x y → Children (λ i. Equally (f i) (g i)) x → Equally (treeBy f x) (treeBy g y)
   unfolding treeBy depth visits

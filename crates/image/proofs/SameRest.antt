@@ -91,7 +91,7 @@ module _ (a c rest : List ℕ) (d : ℕ) (h : Instead a c rest d) where
       let t = tagAt s (suc k) in
       let n = lengthAt s (suc k) in
       rw (tag-moved k, length-moved k, body-moved k)
-      (agree-value s e t (bodyAt s (suc k)) (bodyAt s (suc k) + d) n (6 + n) (covers-more t n) (body-agrees k (6 + n)) (h .period) (h .most))
+      (agree-value s e t (bodyAt s (suc k)) (bodyAt s (suc k) + d) n _ (covers-more t n) (body-agrees k _) (h .period) (h .most))
 
   children-moved : (k : ℕ) → childrenOk e (tagAt e (suc k)) (bodyAt e (suc k)) (lengthAt e (suc k)) (suc k)
       ≡ childrenOk s (tagAt s (suc k)) (bodyAt s (suc k)) (lengthAt s (suc k)) (suc k)
@@ -99,14 +99,14 @@ module _ (a c rest : List ℕ) (d : ℕ) (h : Instead a c rest d) where
       let t = tagAt s (suc k) in
       let n = lengthAt s (suc k) in
       rw (tag-moved k, length-moved k, body-moved k)
-      (agree-children s e t (bodyAt s (suc k)) (bodyAt s (suc k) + d) n (6 + n) (covers-more t n) (body-agrees k (6 + n)) (suc k))
+      (agree-children s e t (bodyAt s (suc k)) (bodyAt s (suc k) + d) n _ (covers-more t n) (body-agrees k _) (suc k))
 
   entry-moved : (k : ℕ) → entryOk e (tagAt e (suc k)) (bodyAt e (suc k)) (suc k) ≡ entryOk s (tagAt s (suc k)) (bodyAt s (suc k)) (suc k)
   entry-moved k =
       let t = tagAt s (suc k) in
       let n = lengthAt s (suc k) in
       rw (tag-moved k, body-moved k)
-      (agree-entry s e t (bodyAt s (suc k)) (bodyAt s (suc k) + d) n (6 + n) (covers-more t n) (body-agrees k (6 + n)) (suc k))
+      (agree-entry s e t (bodyAt s (suc k)) (bodyAt s (suc k) + d) n _ (covers-more t n) (body-agrees k _) (suc k))
 
   -- so it is good where it was, and the same fields fill the image
   head-moved : (k : ℕ) → fieldAt s (suc k) + 3 ≤ length s → fieldAt e (suc k) + 3 ≤ length e
@@ -165,7 +165,7 @@ module _ (a c rest : List ℕ) (d : ℕ) (h : Instead a c rest d) where
       let t = tagAt s (suc k) in
       let m = lengthAt s (suc k) in
       rw (z, tag-moved k, length-moved k, body-moved k)
-      (agree-node s e t (bodyAt s (suc k)) (bodyAt s (suc k) + d) m (6 + m) (covers-more t m) (body-agrees k (6 + m)))
+      (agree-node s e t (bodyAt s (suc k)) (bodyAt s (suc k) + d) m _ (covers-more t m) (body-agrees k _))
 
   pub nodes-same : nodeAt e ≡ nodeAt s
   nodes-same = λ i n. node-moved n i

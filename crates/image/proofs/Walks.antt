@@ -10,12 +10,12 @@ use Rattle.runs.specs.Schedules.{owning}
 use Rattle.runs.specs.Clock.{Places}
 use Rattle.runs.specs.Nodes.{Tree, Trees, none, more, treeBy, trees, nodeLines}
 use Rattle.runs.specs.Carried.{carried, carriedAll, carriedAny}
-use Rattle.runs.proofs.Executions.{Valid}
+use Rattle.runs.proofs.Executions.{Valid, Valids}
 use Rattle.runs.proofs.Whole.{node-valid}
 use Rattle.bus.specs.Owning.{owns, busMeant}
 use Rattle.bytes.specs.Bytes.{wordAt}
 use Rattle.schedule.specs.Said.{said}
-use Rattle.nodes.specs.Nodes.{nodeOf, meant, kindMeant, treeAt, childTrees}
+use Rattle.nodes.specs.Nodes.{nodeOf, meant, kindMeant, treeAt, childTrees, turnTrees}
 use Rattle.image.specs.Tasks.{taskOf}
 use Rattle.nodes.specs.Fine.{Fine, Standing}
 use Rattle.image.specs.Walks.{Walkable, NamedChildren}
@@ -132,6 +132,12 @@ module _ (s : List ℕ) (k : Walk) (places : List ℕ) (w : Walkable s k places)
         (tree-here s n _ here (Branch c) e, record { few = omega (arith, f .1); inside = f .2; below = f .3 })
 
     pub as-loop : (l : LoopNumbers) → nodeOf s (getD places n 0) ≡ Loop l
-        → (treeAt s n ≡ Tree.loop (l .least) (l .greatest) (treeAt s (l .body))) × (l .body < n) × (l .least ≤ l .greatest) × (l .greatest ≤ 10000)
+        → (treeAt s n ≡ Tree.loop (l .least) (l .greatest) (treeAt s (l .body)) (treeAt s (l .test)))
+        × (l .body < n) × (l .test < n) × (l .least ≤ l .greatest) × (l .greatest ≤ 10000)
     unfolding meant treeBy Fine
-    as-loop l e = let f = fine-here s n _ here (Loop l) e in (tree-here s n _ here (Loop l) e, f .1, f .0 .order, f .0 .most)
+    as-loop l e = let f = fine-here s n _ here (Loop l) e in (tree-here s n _ here (Loop l) e, f .1, f .2, f .0 .order, f .0 .most)
+
+  -- the body and the test of a loop
+  pub turn-valid : (body test : ℕ) → body ≤ k .outline .entry → test ≤ k .outline .entry → Valids (busMeant (k .bus) .most) (turnTrees s body test)
+  unfolding Valid
+  turn-valid body test l m = (valid-at body l, (valid-at test m, tt))

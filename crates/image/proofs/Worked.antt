@@ -46,35 +46,65 @@ self : numbered (front ++ 5 ∷ 0 ∷ 2 ∷ 0 ∷ 1 ∷ []) ≡ refused 6 "forwa
 unfolding wordAt tagOk roomOk nodeLengthOk lengthOk busOk startsOk plainOk accessOk blockOk onceOk loopOk nodeValueOk valueOk below childrenOk entryOk fieldOf said equalSlots endOf scanFrom scan wholeOf judged
 self = refl
 
--- "A loop of 10,000 over a block, inside a loop of 9: 90,010 visits, accepted. Inside a loop of 10: 100,011, gives 9."
+-- W3: a loop of 10,000 over A2, tested by A2 too, has 1 + 10,000 × (1 + 1) + 1 = 20,002 visits; a loop of n over that, tested by A2, 1 + n × (20,002 + 1) + 1:
+-- 80,014 are accepted, 100,017 give 9
+abbrev loop : ℕ → ℕ → ℕ → ℕ → List ℕ
+loop high low body test = 7 ∷ 0 ∷ 8 ∷ 0 ∷ 0 ∷ high ∷ low ∷ 0 ∷ body ∷ 0 ∷ test ∷ []
+
 abbrev loops : ℕ → List ℕ
-loops n = front ++ 7 ∷ 0 ∷ 6 ∷ 0 ∷ 0 ∷ 39 ∷ 16 ∷ 0 ∷ 0 ∷ 7 ∷ 0 ∷ 6 ∷ 0 ∷ 0 ∷ 0 ∷ n ∷ 0 ∷ 1 ∷ []
+loops n = front ++ loop 39 16 0 0 ++ loop 0 n 1 0
 
-nine : judged (loops 9) ≡ Accepted (record { period = 10; starts = 2; lines = 0; sets = 1; nodes = 3; entry = 2 })
+four-times : judged (loops 4) ≡ Accepted (record { period = 10; starts = 2; lines = 0; sets = 1; nodes = 3; entry = 2 })
 unfolding wordAt words tagOk roomOk nodeLengthOk lengthOk busOk startsOk plainOk accessOk blockOk onceOk loopOk nodeValueOk valueOk below childrenOk entryOk fieldOf said equalSlots fieldAt nodeFrom meant nodeAt trees treeBy treeTo tree depth visits power linesTo endOf scanFrom scan wholeOf judged
-nine = refl
+four-times = refl
 
-ten : numbered (loops 10) ≡ refused 9 "long" 35
+five-times : numbered (loops 5) ≡ refused 9 "long" 39
 unfolding wordAt words tagOk roomOk nodeLengthOk lengthOk busOk startsOk plainOk accessOk blockOk onceOk loopOk nodeValueOk valueOk below childrenOk entryOk fieldOf said equalSlots fieldAt nodeFrom meant nodeAt trees treeBy treeTo tree depth visits power linesTo endOf scanFrom scan wholeOf judged
-ten = refl
+five-times = refl
+
+-- a body of 100,017 visits that is never executed costs nothing, but a test is executed once
+never : judged (loops 5 ++ loop 0 0 2 0) ≡ Accepted (record { period = 10; starts = 2; lines = 0; sets = 1; nodes = 4; entry = 3 })
+unfolding wordAt words tagOk roomOk nodeLengthOk lengthOk busOk startsOk plainOk accessOk blockOk onceOk loopOk nodeValueOk valueOk below childrenOk entryOk fieldOf said equalSlots fieldAt nodeFrom meant nodeAt trees treeBy treeTo tree depth visits power linesTo endOf scanFrom scan wholeOf judged
+never = refl
+
+once : numbered (loops 5 ++ loop 0 0 0 2) ≡ refused 9 "long" 50
+unfolding wordAt words tagOk roomOk nodeLengthOk lengthOk busOk startsOk plainOk accessOk blockOk onceOk loopOk nodeValueOk valueOk below childrenOk entryOk fieldOf said equalSlots fieldAt nodeFrom meant nodeAt trees treeBy treeTo tree depth visits power linesTo endOf scanFrom scan wholeOf judged
+once = refl
+
+-- "Tag 7 now has body length 8"; least above greatest gives 5 before either child number gives 6
+six-bytes : numbered (front ++ 7 ∷ 0 ∷ 6 ∷ 0 ∷ 0 ∷ 0 ∷ 9 ∷ 0 ∷ 0 ∷ []) ≡ refused 4 "length" 17
+unfolding wordAt tagOk roomOk nodeLengthOk lengthOk busOk startsOk plainOk accessOk blockOk onceOk loopOk nodeValueOk valueOk below childrenOk entryOk fieldOf said equalSlots endOf scanFrom scan wholeOf judged
+six-bytes = refl
+
+counts-first : numbered (front ++ 7 ∷ 0 ∷ 8 ∷ 0 ∷ 1 ∷ 0 ∷ 0 ∷ 0 ∷ 1 ∷ 0 ∷ 1 ∷ []) ≡ refused 5 "value" 17
+unfolding wordAt tagOk roomOk nodeLengthOk lengthOk busOk startsOk plainOk accessOk blockOk onceOk loopOk nodeValueOk valueOk below childrenOk entryOk fieldOf said equalSlots endOf scanFrom scan wholeOf judged
+counts-first = refl
+
+own-body : numbered (front ++ loop 0 1 1 0) ≡ refused 6 "forward" 17
+unfolding wordAt tagOk roomOk nodeLengthOk lengthOk busOk startsOk plainOk accessOk blockOk onceOk loopOk nodeValueOk valueOk below childrenOk entryOk fieldOf said equalSlots endOf scanFrom scan wholeOf judged
+own-body = refl
+
+own-test : numbered (front ++ loop 0 1 0 1) ≡ refused 6 "forward" 17
+unfolding wordAt tagOk roomOk nodeLengthOk lengthOk busOk startsOk plainOk accessOk blockOk onceOk loopOk nodeValueOk valueOk below childrenOk entryOk fieldOf said equalSlots endOf scanFrom scan wholeOf judged
+own-test = refl
 
 -- W1: the same images, closed by a field that names the loop of 10,000, whatever stands behind it; number 3 is no node's, nor is there another field
 abbrev naming : ℕ → List ℕ
 naming n = 8 ∷ 0 ∷ 2 ∷ 0 ∷ n ∷ []
 
-inner : judged (loops 10 ++ naming 1) ≡ Accepted (record { period = 10; starts = 2; lines = 0; sets = 1; nodes = 3; entry = 1 })
+inner : judged (loops 5 ++ naming 1) ≡ Accepted (record { period = 10; starts = 2; lines = 0; sets = 1; nodes = 3; entry = 1 })
 unfolding wordAt words tagOk roomOk nodeLengthOk lengthOk busOk startsOk plainOk accessOk blockOk onceOk loopOk nodeValueOk valueOk below childrenOk entryOk fieldOf said equalSlots fieldAt nodeFrom meant nodeAt trees treeBy treeTo tree depth visits power linesTo endOf scanFrom scan wholeOf judged
 inner = refl
 
-outer : numbered (loops 10 ++ naming 2) ≡ refused 9 "long" 40
+outer : numbered (loops 5 ++ naming 2) ≡ refused 9 "long" 44
 unfolding wordAt words tagOk roomOk nodeLengthOk lengthOk busOk startsOk plainOk accessOk blockOk onceOk loopOk nodeValueOk valueOk below childrenOk entryOk fieldOf said equalSlots fieldAt nodeFrom meant nodeAt trees treeBy treeTo tree depth visits power linesTo endOf scanFrom scan wholeOf judged
 outer = refl
 
-no-node : numbered (loops 10 ++ naming 3) ≡ refused 11 "entry" 35
+no-node : numbered (loops 5 ++ naming 3) ≡ refused 11 "entry" 39
 unfolding wordAt words tagOk roomOk nodeLengthOk lengthOk busOk startsOk plainOk accessOk blockOk onceOk loopOk nodeValueOk valueOk below childrenOk entryOk fieldOf said equalSlots fieldAt nodeFrom meant nodeAt trees treeBy treeTo tree depth visits power linesTo endOf scanFrom scan wholeOf judged
 no-node = refl
 
-again : numbered (loops 9 ++ naming 1 ++ naming 1) ≡ refused 2 "tag" 40
+again : numbered (loops 4 ++ naming 1 ++ naming 1) ≡ refused 2 "tag" 44
 unfolding wordAt words tagOk roomOk nodeLengthOk lengthOk busOk startsOk plainOk accessOk blockOk onceOk loopOk nodeValueOk valueOk below childrenOk entryOk fieldOf said equalSlots fieldAt nodeFrom meant nodeAt trees treeBy treeTo tree depth visits power linesTo endOf scanFrom scan wholeOf judged
 again = refl
 

@@ -2,7 +2,7 @@
 use mathlib.Core.Path.{_≡_}
 use mathlib.Core.Logic.{_⊎_, ⊎-elim}
 use mathlib.Core.List.{List}
-use Prim.Native.Nat.{ℕ, _+_, _-_, _/_, _≤_}
+use Prim.Native.Nat.{ℕ, _+_, _-_, _*_, _/_, _≤_}
 use native.Mathlib.Omega.{arith}
 use lib.ListN.{length}
 use Rattle.rows.specs.Rules.{LengthRule, ValueRule, NamesBelow, ChildRule}
@@ -31,7 +31,10 @@ module _ (s : List ℕ) (b own : ℕ) where
   fine-by t n r inside l c (ValueRule.plain e h) = rw e h
   fine-by t n r inside l c (ValueRule.block e k h) = rw e h
   fine-by t n r inside l c (ValueRule.children lo hi) = parent-fine t n inside lo hi (c .children lo hi) l
-  fine-by t n r inside l c (ValueRule.loop e h) = rw e (h, c .loop e)
+  fine-by t n r inside l c (ValueRule.loop e h) =
+      let first : b + 4 + 2 * 0 ≡ b + 4 = omega arith in
+      let second : b + 4 + 2 * 1 ≡ b + 6 = omega arith in
+      rw e (h, rw first at (c .loop e 0 (omega arith)), rw second at (c .loop e 1 (omega arith)))
   fine-by t n r inside l c (ValueRule.once e h) = rw e h
   fine-by t n r inside l c (ValueRule.bus e h) = absurd (⊎-elim (λ q. omega arith) (λ (lo, hi). omega arith) r)
   fine-by t n r inside l c (ValueRule.entry e) = absurd (⊎-elim (λ q. omega arith) (λ (lo, hi). omega arith) r)

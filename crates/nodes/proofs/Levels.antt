@@ -29,7 +29,7 @@ names s own (Block b) f = tt
 names s own (Once x) f = tt
 names s own (Sequence c) f = all-words (λ i. i < own) s (c .place) (c .count) (f .3)
 names s own (Branch c) f = all-words (λ i. i < own) s (c .place) (c .count) (f .3)
-names s own (Loop l) f = f .1
+names s own (Loop l) f = (f .1, f .2)
 
 -- "a child's number is smaller than that of the node naming it", for the nodes 0 to n
 pub falls : (s : List ℕ) (n : ℕ) → Unclosed s (n + 3) → (k : ℕ) → k < suc n → Named (λ i. i < k) (nodeAt s k)

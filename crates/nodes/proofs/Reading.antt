@@ -28,7 +28,7 @@ module _ (s e : List ℕ) (tag p q n m : ℕ) (c : Covers tag n m) (h : Agree s 
       (λ n4. by-both (λ x y. meant e x ≡ meant s y) (within 5 6 tag) _ _ _ _
       (λ w. by-both (λ x y. meant e x ≡ meant s y) (eqb tag 5) _ _ _ _ (λ is. ap RunNode.sequence named) (λ n5. ap RunNode.branch named))
       (λ w. by-both (λ x y. meant e x ≡ meant s y) (eqb tag 7) _ _ _ _
-      (λ is. let l = c .loop is in rw (word-here s e p q m h (omega arith), agree-word s e p q m 2 h (omega arith), agree-word s e p q m 4 h (omega arith)))
+      (λ is. let l = c .loop is in rw (word-here s e p q m h (omega arith), agree-word s e p q m 2 h (omega arith), agree-word s e p q m 4 h (omega arith), agree-word s e p q m 6 h (omega arith)))
       (λ n7. by-both (λ x y. meant e x ≡ meant s y) (eqb tag 10) _ _ _ _
       (λ is. let l = c .once is in rw (agree-here s e p q m h (omega arith), h 1 (omega arith), h 2 (omega arith), agree-word s e p q m 3 h (omega arith)))
       (λ n10. ap RunNode.sequence (agree-words s e p q 0 (agree-first s e p q m 0 h (omega arith))))))))

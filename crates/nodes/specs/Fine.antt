@@ -17,7 +17,7 @@ Fine s own (Block b) = Accesses (b .lowest) (b .highest) (said s .most)
 Fine s own (Once x) = Fetches (x .line) (x .lowest) (x .highest) (x .hit) (said s .most)
 Fine s own (Sequence c) = (1 ≤ c .count) × (c .count ≤ 16) × (c .place + 2 * c .count ≤ length s) × NamesBelow s (c .place) (c .count) own
 Fine s own (Branch c) = (2 ≤ c .count) × (c .count ≤ 8) × (c .place + 2 * c .count ≤ length s) × NamesBelow s (c .place) (c .count) own
-Fine s own (Loop l) = LoopCounts (l .least) (l .greatest) × (l .body < own)
+Fine s own (Loop l) = LoopCounts (l .least) (l .greatest) × (l .body < own) × (l .test < own)
 
 -- node n's field stands at a place, it and all before it are good, and none of them has closed the image
 pub record Standing (s : List ℕ) (n at : ℕ) : Type 0 where

@@ -4,7 +4,7 @@ use mathlib.Core.Bool.{cond}
 use mathlib.Core.List.{List}
 use Prim.Native.Nat.{ℕ, _+_, _/_}
 use lib.Dec.{eqb}
-use Rattle.runs.specs.Nodes.{Kind as RunKind, may, always, Node as RunNode, Tree, Trees, tree, trees, linesTo}
+use Rattle.runs.specs.Nodes.{Kind as RunKind, may, always, Node as RunNode, Tree, Trees, none, more, tree, trees, linesTo}
 use Rattle.bytes.specs.Bytes.{byteAt, wordAt, words}
 use Rattle.schedule.specs.Said.{within}
 use Rattle.nodes.specs.declared.Kind.{Kind}
@@ -26,7 +26,7 @@ nodeFrom s tag body n =
     (cond (within 5 6 tag)
     (cond (eqb tag 5) (Sequence (record { place = body; count = n / 2 })) (Branch (record { place = body; count = n / 2 })))
     (cond (eqb tag 7)
-    (Loop (record { least = wordAt s body; greatest = wordAt s (body + 2); body = wordAt s (body + 4) }))
+    (Loop (record { least = wordAt s body; greatest = wordAt s (body + 2); body = wordAt s (body + 4); test = wordAt s (body + 6) }))
     (cond (eqb tag 10)
     (Once (record { line = byteAt s body; lowest = byteAt s (body + 1); highest = byteAt s (body + 2); hit = wordAt s (body + 3) }))
     (Sequence (record { place = body; count = 0 }))))))
@@ -47,7 +47,7 @@ meant s (Block b) = RunNode.bus (kindMeant (b .kind)) (b .lowest) (b .highest)
 meant s (Once x) = RunNode.once (x .line) (x .lowest) (x .highest) (x .hit)
 meant s (Sequence c) = RunNode.sequence (words s (c .place) (c .count))
 meant s (Branch c) = RunNode.branch (words s (c .place) (c .count))
-meant s (Loop l) = RunNode.loop (l .least) (l .greatest) (l .body)
+meant s (Loop l) = RunNode.loop (l .least) (l .greatest) (l .body) (l .test)
 
 -- "node fields (tags 3 to 7), numbered from 0": node n has n + 2 fields before it
 unfoldable pub nodeAt : List ℕ → ℕ → RunNode
@@ -59,6 +59,10 @@ treeAt s n = tree (nodeAt s) n
 
 abbrev pub childTrees : List ℕ → ℕ → ℕ → Trees
 childTrees s place n = trees (λ k. tree (nodeAt s) k) (words s place n)
+
+-- those of one iteration of a loop tested at the head (W3): its body, and the test that follows
+abbrev pub turnTrees : List ℕ → ℕ → ℕ → Trees
+turnTrees s body test = more (treeAt s body) (more (treeAt s test) none)
 
 -- "Lines are one more than the highest line number in the image, or 0" (W9), of an image of n nodes: those that the entry does not reach count too
 abbrev pub linesOf : List ℕ → ℕ → ℕ

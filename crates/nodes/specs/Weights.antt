@@ -1,11 +1,12 @@
 -- What the functions that weigh nodes promise each other; no other crate needs it. Definitions only.
 use mathlib.Core.Path.{_≡_}
 use mathlib.Core.List.{List}
-use Prim.Native.Nat.{ℕ, _*_, _≤_, _<_, min}
+use Prim.Native.Nat.{ℕ, _+_, _*_, _≤_, _<_, min, max}
 use lib.ListN.{getD}
 use Rattle.runs.specs.Nodes.{depth, deepest, visits as visited, visitsAll}
 use Rattle.nodes.specs.Nodes.{treeAt, childTrees}
 use Rattle.nodes.specs.declared.weigh.Weight.{Weight}
+use Rattle.nodes.specs.declared.Loop.{Loop}
 
 -- a table's first n places hold f, or the cap where f is more
 abbrev pub Holds : ℕ → (ℕ → ℕ) → ℕ → List ℕ → Type 0
@@ -21,6 +22,13 @@ pub record Together (s : List ℕ) (place count : ℕ) (r : Weight) : Type 0 whe
   pub deep : r .depth ≡ min 25 (deepest (childTrees s place count))
   pub long : min 100001 (r .visits) ≡ min 100001 (visitsAll (childTrees s place count))
   pub most : r .visits ≤ 100001 * count
+
+-- r is the greater depth of a loop's body and test, and the visits of all its iterations with all their tests, exact up to 100,000
+pub record Turning (s : List ℕ) (l : Loop) (r : Weight) : Type 0 where
+  pub deep : r .depth ≡ min 25 (max (depth (treeAt s (l .body))) (depth (treeAt s (l .test))))
+  pub long : min 100001 (r .visits)
+      ≡ min 100001 (l .greatest * (visited (treeAt s (l .body)) + visited (treeAt s (l .test))) + visited (treeAt s (l .test)))
+  pub most : r .visits ≤ 2000120001
 
 -- r is the depth, up to 25, and the visits, up to 100,001, of node n
 pub record Weighs (s : List ℕ) (n : ℕ) (r : Weight) : Type 0 where

@@ -43,10 +43,12 @@ pub struct Children {
     pub count: usize,
 }
 
+// A loop tested at the head: the test comes before each iteration of the body, and once after the last.
 pub struct Loop {
     pub least: usize,
     pub greatest: usize,
     pub body: usize,
+    pub test: usize,
 }
 
 pub enum Node {
@@ -99,6 +101,7 @@ pub fn node_at(image: &[u8], at: usize) -> Node
             least: word(image, body),
             greatest: word(image, body + 2),
             body: word(image, body + 4),
+            test: word(image, body + 6),
         }),
         10 => Node::Once(Once {
             line: byte(image, body),

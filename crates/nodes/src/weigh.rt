@@ -5,7 +5,8 @@ ghost use Prim.Native.Nat.{_+_, _-_, _*_, _≤_, _<_, min, max};
 ghost use Rattle.rows.specs.Unclosed.{Unclosed};
 ghost use Rattle.rows.specs.Rules.{NamesBelow};
 ghost use Rattle.nodes.specs.Fine.{Standing, Placed};
-ghost use Rattle.nodes.specs.Weights.{Weighed, Together, Weighs};
+ghost use Rattle.nodes.specs.Weights.{Weighed, Together, Turning, Weighs};
+use crate::Loop;
 use crate::Node;
 use crate::node_at;
 use bytes::word;
@@ -55,9 +56,31 @@ fn over_children(
     }
 }
 
+// The iterations of a loop, node n, with all their tests and the first: the greater depth of body and test, up to 25, and their visits, exact up to 100,000.
+fn over_turns(
+    image: &[u8],
+    l: Loop,
+    n: usize,
+    depths: &[usize; 256],
+    visits: &[usize; 256],
+) -> Weight
+    requires { ⌜ (l .greatest ≤ 10000) × (l .body < n) × (l .test < n) × (n ≤ 256) × (Weighed (now image) n (now depths) (now visits)) ⌝ }
+    ensures { λ r. ⌜ Turning (now (image .entry)) l r ⌝ }
+{
+    let body = l.body;
+    let test = l.test;
+    let tests = visits[test];
+    let each = visits[body] + tests;
+    let turns = l.greatest * each;
+    Weight {
+        depth: larger(depths[body], depths[test]),
+        visits: turns + tests,
+    }
+}
+
 // A node over children that weigh w together: one level deeper, and one visit more.
 fn above(w: Weight) -> Weight
-    requires { ⌜ (w .depth ≤ 25) × (w .visits ≤ 1000010000) ⌝ }
+    requires { ⌜ (w .depth ≤ 25) × (w .visits ≤ 2000120001) ⌝ }
     ensures { λ r. ⌜ (r .depth ≡ min 25 (1 + w .depth)) × (r .visits ≡ min 100001 (1 + w .visits)) ⌝ }
 {
     Weight {
@@ -93,13 +116,7 @@ fn weight_of(
         }),
         Node::Sequence(c) => above(over_children(image, c.place, c.count, n, depths, visits)),
         Node::Branch(c) => above(over_children(image, c.place, c.count, n, depths, visits)),
-        Node::Loop(l) => {
-            let body = l.body;
-            above(Weight {
-                depth: depths[body],
-                visits: l.greatest * visits[body],
-            })
-        }
+        Node::Loop(l) => above(over_turns(image, l, n, depths, visits)),
     }
 }
 

@@ -3,10 +3,13 @@ use mathlib.Core.Path.{_≡_}
 use mathlib.Core.List.{List}
 use lib.ListN.{length, getD}
 use native.Mathlib.Omega.{arith}
-use Prim.Native.Nat.{ℕ, _≤_, _<_}
-use Rattle.runs.specs.Nodes.{Tree, visits}
+use native.Mathlib.Nat.{mul-left-comm}
+use Prim.Native.Nat.{ℕ, _+_, _*_, _≤_, _<_}
+use Rattle.runs.specs.Nodes.{Tree, visits, visitsAll}
+use Rattle.runs.proofs.Bounds.{cost-all, sum-le}
+use Rattle.bus.specs.Owning.{busMeant}
 use Rattle.offsets.specs.declared.Set.{Set}
-use Rattle.nodes.specs.Nodes.{nodeOf, kindMeant, treeAt, childTrees}
+use Rattle.nodes.specs.Nodes.{nodeOf, kindMeant, treeAt, childTrees, turnTrees}
 use Rattle.image.specs.declared.Walk.{Walk}
 use Rattle.nodes.specs.declared.Node.the-variants.{Plain, Bus as Block, Once, Sequence, Branch, Loop}
 use Rattle.nodes.specs.declared.Plain.{Plain as PlainNumbers}
@@ -14,11 +17,12 @@ use Rattle.nodes.specs.declared.BusBlock.{BusBlock}
 use Rattle.nodes.specs.declared.Once.{Once as OnceNumbers}
 use Rattle.nodes.specs.declared.Children.{Children}
 use Rattle.nodes.specs.declared.Loop.{Loop as LoopNumbers}
-use Rattle.image.proofs.Walks.{node-place, as-plain, as-block, as-once, as-sequence, as-branch, as-loop as loop-node}
+use Rattle.image.proofs.Walks.{walk-lawful, walk-small, turn-valid, node-place, as-plain, as-block, as-once, as-sequence, as-branch, as-loop as loop-node}
 use Rattle.exits.specs.Exits.{PlainReady, BusReady}
 use Rattle.published.specs.declared.Outcome.{Outcome}
-use Rattle.published.specs.Steps.{Ready, ReadyAll, ReadyRepeat, Published, PublishedAll, PublishedAny}
+use Rattle.published.specs.Steps.{bits, charge, Ready, ReadyAll, ReadyRepeat, Published, PublishedAll, PublishedAny, Repeated}
 use Rattle.published.proofs.Parts.{as-all, as-any}
+use Rattle.published.proofs.Children.{outcome-small}
 
 module _ (s : List ℕ) (k : Walk) (places : List ℕ) (node : ℕ) (x : Set) (r : Ready s k places node x) where
   pub in-image : getD places node 0 ≤ length s
@@ -81,11 +85,57 @@ module _ (s : List ℕ) (k : Walk) (places : List ℕ) (node : ℕ) (x : Set) (r
 
   -- loops
   module _ (l : LoopNumbers) (e : nodeOf s (getD places node 0) ≡ Loop l) where
-    pub repeat-ready : ReadyRepeat s k places node l x
+    pub repeat-ready : ReadyRepeat s k places node l (visits (treeAt s (l .test))) x
     unfolding visits
     repeat-ready =
         let h = loop-node s k places (r .walkable) node (r .low) l e in
-        record { walkable = r .walkable; low = r .low; below = h .1; many = h .3; few = omega (arith, rw (h .0) at (r .few)); within = r .within }
+        record {
+          walkable = r .walkable;
+          low = r .low;
+          below = h .1;
+          below-test = h .2;
+          many = h .4;
+          few = omega (arith, rw (h .0) at (r .few));
+          within = r .within;
+        }
 
-    pub repeat-done : (q : Outcome) → Published (k .bus) (Tree.loop (l .least) (l .greatest) (treeAt s (l .body))) x q → Published (k .bus) (treeAt s node) x q
+    pub repeat-done : (q : Outcome) → Published (k .bus) (Tree.loop (l .least) (l .greatest) (treeAt s (l .body)) (treeAt s (l .test))) x q
+        → Published (k .bus) (treeAt s node) x q
     repeat-done q h = rw (loop-node s k places (r .walkable) node (r .low) l e .0) h
+
+-- a loop's first test, and what is to come then
+module _ (s : List ℕ) (k : Walk) (places : List ℕ) (node : ℕ) (l : LoopNumbers) (x : Set)
+    (r : ReadyRepeat s k places node l (visits (treeAt s (l .test))) x) where
+  test-low : l .test ≤ k .outline .entry
+  test-low = omega (arith, r .low, r .below-test)
+
+  pub first-ready : Ready s k places (l .test) x
+  first-ready = record { walkable = r .walkable; low = test-low; few = omega (arith, r .few); within = r .within }
+
+  module _ (n : Outcome) (first : Published (k .bus) (treeAt s (l .test)) x n) where
+    pub turns-ready : ReadyRepeat s k places node l 0 (n .exits)
+    turns-ready = record {
+      walkable = r .walkable;
+      low = r .low;
+      below = r .below;
+      below-test = r .below-test;
+      many = r .many;
+      few = omega (arith, r .few);
+      within = first .exited .within;
+    }
+
+    -- both costs are at most 65,535 for each visit
+    pub turns-small : (q : Outcome) → Repeated (k .bus) (turnTrees s (l .body) (l .test)) (l .least) (l .greatest) (n .exits) q → n .cost + q .cost ≤ 6553500000
+    turns-small q h =
+        let xs = turnTrees s (l .body) (l .test) in
+        let valid = turn-valid s k places (r .walkable) (l .body) (l .test) (omega (arith, r .low, r .below)) test-low in
+        let most = sum-le (l .greatest) (charge (k .bus) xs (bits (k .bus) (n .exits))) (65535 * visitsAll xs)
+        (λ i. cost-all (busMeant (k .bus)) (walk-lawful s k places (r .walkable)) (walk-small s k places (r .walkable)) xs valid _) in
+        omega (
+          arith,
+          outcome-small s k places (r .walkable) (l .test) test-low x n first,
+          h .costs,
+          most,
+          mul-left-comm (l .greatest) 65535 (visitsAll xs),
+          r .few,
+        )

@@ -8,12 +8,12 @@
 // end: the unroller stops there, whole cycles are skipped, and the rest is walked.
 ghost use mathlib.Core.Path.{_≡_};
 ghost use Prim.Native.Nat.{_+_, _≤_, max};
-ghost use Rattle.runs.specs.Nodes.{Tree};
+ghost use Rattle.runs.specs.Nodes.{Tree, visits};
 ghost use Rattle.bus.specs.declared.Bus.{Bus};
-ghost use Rattle.nodes.specs.Nodes.{treeAt, childTrees, kindMeant};
+ghost use Rattle.nodes.specs.Nodes.{treeAt, childTrees, turnTrees, kindMeant};
 ghost use Rattle.exits.specs.Exits.{PlainReady, BusReady};
 ghost use Rattle.cycles.specs.Cycles.{Small};
-ghost use Rattle.published.specs.Steps.{Ready, ReadyAll, ReadyRepeat, ReadyLoop, Published, PublishedAll, PublishedAny, BegunAt, TurnedAt, WatchedBy, SkippedBy, Unrolls};
+ghost use Rattle.published.specs.Steps.{Ready, ReadyAll, ReadyTurn, ReadyRepeat, ReadyLoop, Published, PublishedAll, PublishedAny, Repeated, BegunAt, TurnedAt, WatchedBy, SkippedBy, Unrolls};
 use bus::Bus;
 use cycles::Watch;
 use image::Walk;
@@ -262,10 +262,25 @@ fn branch(image: &[u8], places: &[usize; 256], k: Walk, node: usize, c: Children
     Outcome { cost, exits: out }
 }
 
-// A loop: unrolled until a cycle is found or all is done, whole cycles skipped, and the rest unrolled.
+// A loop: the test comes first, and then the iterations, a test after each.
 fn repeat(image: &[u8], places: &[usize; 256], k: Walk, node: usize, l: Loop, s: Set) -> Outcome
-    requires { ⌜ ReadyRepeat (now image) k (now places) node l s ⌝ }
-    ensures { λ r. ⌜ Published (k .bus) (Tree.loop (l .least) (l .greatest) (treeAt (now (image .entry)) (l .body))) s r ⌝ }
+    requires { ⌜ ReadyRepeat (now image) k (now places) node l (visits (treeAt (now image) (l .test))) s ⌝ }
+    ensures { λ r. ⌜ Published (k .bus) (Tree.loop (l .least) (l .greatest) (treeAt (now (image .entry)) (l .body)) (treeAt (now (image .entry)) (l .test))) s r ⌝ }
+{
+    let first = walk(image, places, k, l.test, s);
+    let cur = first.exits;
+    let rest = iterations(image, places, k, node, l, cur);
+    let exits = rest.exits;
+    Outcome {
+        cost: first.cost + rest.cost,
+        exits,
+    }
+}
+
+// The iterations: unrolled until a cycle is found or all is done, whole cycles skipped, and the rest unrolled.
+fn iterations(image: &[u8], places: &[usize; 256], k: Walk, node: usize, l: Loop, s: Set) -> Outcome
+    requires { ⌜ ReadyRepeat (now image) k (now places) node l 0 s ⌝ }
+    ensures { λ r. ⌜ Repeated (k .bus) (turnTrees (now (image .entry)) (l .body) (l .test)) (l .least) (l .greatest) s r ⌝ }
 {
     let begun = Turns {
         pass: before_first(l.least, s),
@@ -278,15 +293,46 @@ fn repeat(image: &[u8], places: &[usize; 256], k: Walk, node: usize, l: Loop, s:
             gain: 0,
         },
     };
-    let seen = unroll(image, places, k, l.body, l.least, l.greatest, begun);
+    let seen = unroll(image, places, k, l.body, l.test, l.least, l.greatest, begun);
     let w = seen.watch;
     let rest = skipped(l.greatest - w.done, seen);
     let v = rest.watch;
-    let all = unroll(image, places, k, l.body, l.least, l.greatest - v.done, rest);
+    let all = unroll(
+        image,
+        places,
+        k,
+        l.body,
+        l.test,
+        l.least,
+        l.greatest - v.done,
+        rest,
+    );
     let pass = all.pass;
     let exits = pass.out;
     Outcome {
         cost: pass.cost,
+        exits,
+    }
+}
+
+// One iteration: the body, and the test that follows it.
+fn iteration(
+    image: &[u8],
+    places: &[usize; 256],
+    k: Walk,
+    body: usize,
+    test: usize,
+    s: Set,
+) -> Outcome
+    requires { ⌜ ReadyTurn (now image) k (now places) body test s ⌝ }
+    ensures { λ r. ⌜ PublishedAll (k .bus) (turnTrees (now (image .entry)) body test) s r ⌝ }
+{
+    let first = walk(image, places, k, body, s);
+    let cur = first.exits;
+    let then = walk(image, places, k, test, cur);
+    let exits = then.exits;
+    Outcome {
+        cost: first.cost + then.cost,
         exits,
     }
 }
@@ -297,12 +343,13 @@ fn unroll(
     places: &[usize; 256],
     k: Walk,
     body: usize,
+    test: usize,
     least: usize,
     left: usize,
     t: Turns,
 ) -> Turns
-    requires { ⌜ ReadyLoop (now image) k (now places) body left t ⌝ }
-    ensures { λ r. ⌜ Unrolls (k .bus) (treeAt (now (image .entry)) body) least left t r ⌝ }
+    requires { ⌜ ReadyLoop (now image) k (now places) body test left t ⌝ }
+    ensures { λ r. ⌜ Unrolls (k .bus) (turnTrees (now (image .entry)) body test) least left t r ⌝ }
 {
     let w = t.watch;
     if left == 0 {
@@ -315,10 +362,10 @@ fn unroll(
         let p = t.pass;
         let kept = t.kept;
         let cur = p.cur;
-        let next = walk(image, places, k, body, cur);
+        let next = iteration(image, places, k, body, test, cur);
         return watched(joined(least, w.done, p, next), kept, w);
     }
     let half = left / 2;
-    let a = unroll(image, places, k, body, least, half, t);
-    unroll(image, places, k, body, least, left - half, a)
+    let a = unroll(image, places, k, body, test, least, half, t);
+    unroll(image, places, k, body, test, least, left - half, a)
 }

@@ -20,13 +20,13 @@ pub record Covers (tag n m : ℕ) : Type 0 where
   pub bus : eqb tag 1 ≡ true → 3 ≤ m
   pub plain : eqb tag 3 ≡ true → 4 ≤ m
   pub block : eqb tag 4 ≡ true → 3 ≤ m
-  pub loop : eqb tag 7 ≡ true → 6 ≤ m
+  pub loop : eqb tag 7 ≡ true → 8 ≤ m
   pub entry : eqb tag 8 ≡ true → 2 ≤ m
   pub turns : eqb tag 9 ≡ true → 1 + 2 * (n / 2) ≤ m
   pub once : eqb tag 10 ≡ true → 5 ≤ m
 
--- six bytes more are enough, whatever the tag and the length
-pub covers-more : (tag n : ℕ) → Covers tag n (6 + n)
+-- eight bytes more are enough, whatever the tag and the length
+pub covers-more : (tag n : ℕ) → Covers tag n (8 + n)
 covers-more tag n = record {
   whole = omega arith;
   bus = λ is. omega arith;
@@ -50,7 +50,7 @@ module _ (tag n : ℕ) (len : lengthOk tag n ≡ true) where
     bus = λ is. omega (arith, eqb-true n 3 (at-tag 1 is));
     plain = λ is. omega (arith, eqb-true n 4 (at-tag 3 is));
     block = λ is. omega (arith, eqb-true n 3 (at-tag 4 is));
-    loop = λ is. omega (arith, eqb-true n 6 (at-tag 7 is));
+    loop = λ is. omega (arith, eqb-true n 8 (at-tag 7 is));
     entry = λ is. omega (arith, eqb-true n 2 (at-tag 8 is));
     turns = λ is. omega (arith, eqb-true (n % 2) 1 (both (within 3 65 n) (eqb (n % 2) 1) (at-tag 9 is) .1));
     once = λ is. omega (arith, eqb-true n 5 (at-tag 10 is));
@@ -109,7 +109,7 @@ module _ (s e : List ℕ) where
         by-both _≡_ (within 5 6 tag) _ _ _ _
         (λ is. agree-below p q (n / 2) index (agree-first s e p q m (2 * (n / 2)) h (omega (arith, c .whole))))
         (λ n5. by-both _≡_ (eqb tag 7) _ _ _ _
-        (λ is. let l = c .loop is in agree-below (p + 4) (q + 4) 1 index (agree-part s e p q m 4 2 h (omega arith)))
+        (λ is. let l = c .loop is in agree-below (p + 4) (q + 4) 2 index (agree-part s e p q m 4 4 h (omega arith)))
         (λ n7. refl))
 
     pub agree-entry : (index : ℕ) → entryOk e tag q index ≡ entryOk s tag p index

@@ -129,7 +129,7 @@ length-holds tag n =
     (λ n3. row (eqb tag 4) _ _ (λ t e. LengthRule.block (eqb-true tag 4 t) (eqb-true n 3 e))
     (λ n4. row (eqb tag 5) _ _ (λ t e. let p = parity 0 2 32 n e in LengthRule.sequence (eqb-true tag 5 t) (p .0) (p .1) (n / 2, even-of n (p .2)))
     (λ n5. row (eqb tag 6) _ _ (λ t e. let p = parity 0 4 16 n e in LengthRule.branch (eqb-true tag 6 t) (p .0) (p .1) (n / 2, even-of n (p .2)))
-    (λ n6. row (eqb tag 7) _ _ (λ t e. LengthRule.loop (eqb-true tag 7 t) (eqb-true n 6 e)) (λ n7. none))))))
+    (λ n6. row (eqb tag 7) _ _ (λ t e. LengthRule.loop (eqb-true tag 7 t) (eqb-true n 8 e)) (λ n7. none))))))
     (λ w. row (eqb tag 8) _ _ (λ t e. LengthRule.entry (eqb-true tag 8 t) (eqb-true n 2 e))
     (λ n8. row (eqb tag 9) _ _ (λ t e. let p = parity 1 3 65 n e in LengthRule.schedule (eqb-true tag 9 t) (p .0) (p .1) (n / 2, odd-of n (p .2)))
     (λ n9. row (eqb tag 10) _ _ (λ t e. LengthRule.once (eqb-true tag 10 t) (eqb-true n 5 e)) (λ n10. none))))))
@@ -253,14 +253,14 @@ module _ (s : List ℕ) (tag body n index : ℕ) where
   unfolding childrenOk
   child-holds e = record {
     children = λ lo hi. names-below s body (n / 2) index (simp (le-leb 5 tag lo, le-leb tag 6 hi) at e);
-    loop = λ t. let z : body + 4 + 2 * 0 ≡ body + 4 = omega arith in rw z at (names-below s (body + 4) 1 index (rw t at e) 0 (omega arith));
+    loop = λ t. names-below s (body + 4) 2 index (rw t at e);
   }
 
   child-passes : ChildRule s tag body n (index - 2) → childrenOk s tag body n index ≡ true
   unfolding childrenOk
   child-passes r =
       rows (within 5 6 tag) _ _ (λ w. let p = is-within 5 6 tag w in below-names s body (n / 2) index (r .children (p .0) (p .1)))
-      (λ n5. rows (eqb tag 7) _ _ (λ t. below-names s (body + 4) 1 index (λ i l. let z : body + 4 + 2 * i ≡ body + 4 = omega arith in rw z (r .loop (eqb-true tag 7 t)))) (λ n7. refl))
+      (λ n5. rows (eqb tag 7) _ _ (λ t. below-names s (body + 4) 2 index (r .loop (eqb-true tag 7 t))) (λ n7. refl))
 
   pub child-rule : Decides (childrenOk s tag body n index) (ChildRule s tag body n (index - 2))
   child-rule = record { holds = child-holds; passes = child-passes }

@@ -1,4 +1,5 @@
--- The rules of the rows: the table in "The task image" of document 01, and the rows that document 02 adds (8 of W1, 9 of W5, 10 of W9), in plain terms.
+-- The rules of the rows: the table in "The task image" of document 01, and the rows that document 02 adds (8 of W1, 9 of W5, 10 of W9) or alters (7, W3), in
+-- plain terms.
 -- Numbers 2 to 6 and 11 say which rule a field breaks (specs/Conditions.antt of crate image); that the tests of specs/Tests.antt are true if and only if
 -- these rules hold is proofs/Rules.antt. Definitions only.
 use mathlib.Core.Path.{_≡_}
@@ -32,7 +33,7 @@ IsEven n = (m : ℕ) × (n ≡ 2 * m)
 abbrev pub IsOdd : ℕ → Type 0
 IsOdd n = (m : ℕ) × (n ≡ 1 + 2 * m)
 
--- 4: "Body length", row by row
+-- 4: "Body length", row by row; "Tag 7 now has body length 8" (W3)
 pub data LengthRule (tag n : ℕ) : Type 0 where
   bus : tag ≡ 1 → n ≡ 3 → LengthRule tag n
   starts : tag ≡ 2 → 1 ≤ n → n ≤ 256 → LengthRule tag n
@@ -40,7 +41,7 @@ pub data LengthRule (tag n : ℕ) : Type 0 where
   block : tag ≡ 4 → n ≡ 3 → LengthRule tag n
   sequence : tag ≡ 5 → 2 ≤ n → n ≤ 32 → IsEven n → LengthRule tag n
   branch : tag ≡ 6 → 4 ≤ n → n ≤ 16 → IsEven n → LengthRule tag n
-  loop : tag ≡ 7 → n ≡ 6 → LengthRule tag n
+  loop : tag ≡ 7 → n ≡ 8 → LengthRule tag n
   entry : tag ≡ 8 → n ≡ 2 → LengthRule tag n
   schedule : tag ≡ 9 → 3 ≤ n → n ≤ 65 → IsOdd n → LengthRule tag n
   once : tag ≡ 10 → n ≡ 5 → LengthRule tag n
@@ -94,10 +95,11 @@ pub data ValueRule (s : List ℕ) (tag body n : ℕ) : Type 0 where
 abbrev pub NamesBelow : List ℕ → ℕ → ℕ → ℕ → Type 0
 NamesBelow s place n own = (i : ℕ) → i < n → wordAt s (place + 2 * i) < own
 
--- 6: "a child number not below the node's own": those that are the body of a sequence or a branch, and the third number of a loop
+-- 6: "a child number not below the node's own": those that are the body of a sequence or a branch, and of a loop, behind "least, greatest", its
+-- "body, and the child number of a test node" (W3)
 pub record ChildRule (s : List ℕ) (tag body n own : ℕ) : Type 0 where
   pub children : 5 ≤ tag → tag ≤ 6 → NamesBelow s body (n / 2) own
-  pub loop : tag ≡ 7 → wordAt s (body + 4) < own
+  pub loop : tag ≡ 7 → NamesBelow s (body + 4) 2 own
 
 -- 11 (W1): no "number in tag 8" that "is not that of a node", of which so many stand before it
 abbrev pub EntryRule : List ℕ → ℕ → ℕ → ℕ → Type 0

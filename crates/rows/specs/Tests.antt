@@ -31,7 +31,7 @@ nodeLengthOk tag n =
     (cond (eqb tag 4) (eqb n 3)
     (cond (eqb tag 5) (parityWithin 0 2 32 n)
     (cond (eqb tag 6) (parityWithin 0 4 16 n)
-    (cond (eqb tag 7) (eqb n 6) false))))
+    (cond (eqb tag 7) (eqb n 8) false))))
 
 unfoldable pub lengthOk : ℕ → ℕ → Bool
 lengthOk tag n =
@@ -91,11 +91,11 @@ unfoldable pub below : List ℕ → ℕ → ℕ → ℕ → Bool
 below s place zero index = true
 below s place (suc n) index = ltb (wordAt s place + 2) index && below s (place + 2) n index
 
--- rows 5, 6 and 7: the body is child numbers, and a loop's third number is one
+-- rows 5, 6 and 7: the body is child numbers, and of a loop the third number and the fourth
 unfoldable pub childrenOk : List ℕ → ℕ → ℕ → ℕ → ℕ → Bool
 childrenOk s tag body n index =
     cond (within 5 6 tag) (below s body (n / 2) index)
-    (cond (eqb tag 7) (below s (body + 4) 1 index) true)
+    (cond (eqb tag 7) (below s (body + 4) 2 index) true)
 
 -- row 8 (W1): the number is that of a node, which has fewer than `index` fields before it
 unfoldable pub entryOk : List ℕ → ℕ → ℕ → ℕ → Bool

@@ -69,7 +69,7 @@ fn node_length_ok(tag: usize, len: usize) -> bool
         4 => len == 3,
         5 => parity_between(0, 2, 32, len),
         6 => parity_between(0, 4, 16, len),
-        7 => len == 6,
+        7 => len == 8,
         _ => false,
     }
 }
@@ -231,12 +231,12 @@ fn all_below(image: &[u8], place: usize, count: usize, index: usize) -> bool
 
 // Are the body's child numbers below that of the node, which is field `index`?
 pub fn children_ok(image: &[u8], tag: usize, body: usize, len: usize, index: usize) -> bool
-    requires { ⌜ (body + len < 18446744073709551615) × (body + 6 < 18446744073709551615) ⌝ }
+    requires { ⌜ (body + len < 18446744073709551615) × (body + 8 < 18446744073709551615) ⌝ }
     ensures { λ r. ⌜ r ≡ childrenOk (now (image .entry)) tag body len index ⌝ }
 {
     match tag {
         5..=6 => all_below(image, body, len / 2, index),
-        7 => all_below(image, body + 4, 1, index),
+        7 => all_below(image, body + 4, 2, index),
         _ => true,
     }
 }

@@ -64,16 +64,19 @@ module _ (t : Task) (pos : 0 < t .bus .period) (x : ℕ) (line : x < t .lines) w
         rw f (pass-in hit s ∙ or-held (isFetched t x s) (eqb y x) (λ q. let same : y ≡ x = eqb-true y x q in rw same at h))
     met (in-order ns e r) = met-all r
     met (one-of ns m e i r) = met r
-    met (repeats least greatest body k e i j r) = met-times r
+    met (repeats least greatest body test k e i j r) = met-times r
 
     met-all : {ns : List ℕ} {s s' : State} (r : DoesAll (t .bus) (placesOf t) (t .nodeAt) ns s s') → isFetched t x s' ≡ (isFetched t x s || executesAll x r)
     met-all {ns} {s} end = sym (or-joins .right (isFetched t x s))
     met-all {ns} {s} (next r rs) = met-all rs ∙ ap (λ (z : Bool). z || executesAll x rs) (met r) ∙ or-joins .assoc (isFetched t x s) (executes x r) (executesAll x rs)
 
-    met-times : {k n : ℕ} {s s' : State} (r : DoesTimes (t .bus) (placesOf t) (t .nodeAt) k n s s') → isFetched t x s' ≡ (isFetched t x s || executesTimes x r)
-    met-times {k} {n} {s} enough = sym (or-joins .right (isFetched t x s))
-    met-times {k} {n} {s} (again rs r) =
-        met r ∙ ap (λ (z : Bool). z || executes x r) (met-times rs) ∙ or-joins .assoc (isFetched t x s) (executesTimes x rs) (executes x r)
+    met-times : {k body test : ℕ} {s s' : State} (r : DoesTimes (t .bus) (placesOf t) (t .nodeAt) k body test s s')
+        → isFetched t x s' ≡ (isFetched t x s || executesTimes x r)
+    met-times (enough r) = met r
+    met-times {k} {body} {test} {s} (again {m = m} rs r u) =
+        met u ∙ ap (λ (z : Bool). z || executes x u) (met r) ∙ or-joins .assoc (isFetched t x m) (executes x r) (executes x u)
+        ∙ ap (λ (z : Bool). z || (executes x r || executes x u)) (met-times rs)
+        ∙ or-joins .assoc (isFetched t x s) (executesTimes x rs) (executes x r || executes x u)
 
   -- "at first none": so at the end of a run the lines fetched are those of the nodes executed
   pub run-met : {s : State} (r : Run t s) → isFetched t x s ≡ executes x (r .does)

@@ -44,12 +44,12 @@ module _ (t : Task) (pos : 0 < t .bus .period) (c : ℕ) where
     does-on {n} {s} (later-time x lo hi hit y u e) h = rw e (pass-on hit s h)
     does-on (in-order ns x r) h = all-on r h
     does-on (one-of ns m x a r) h = does-on r h
-    does-on (repeats least greatest body k x a b r) h = times-on r h
+    does-on (repeats least greatest body test k x a b r) h = times-on r h
 
     all-on : {ns : List ℕ} {s s' : State} → DoesAll (t .bus) (placesOf t) (t .nodeAt) ns s s' → OnClock s → OnClock s'
     all-on end h = h
     all-on (next r rs) h = all-on rs (does-on r h)
 
-    times-on : {k n : ℕ} {s s' : State} → DoesTimes (t .bus) (placesOf t) (t .nodeAt) k n s s' → OnClock s → OnClock s'
-    times-on enough h = h
-    times-on (again rs r) h = does-on r (times-on rs h)
+    times-on : {k body test : ℕ} {s s' : State} → DoesTimes (t .bus) (placesOf t) (t .nodeAt) k body test s s' → OnClock s → OnClock s'
+    times-on (enough r) h = does-on r h
+    times-on (again rs r u) h = does-on u (does-on r (times-on rs h))

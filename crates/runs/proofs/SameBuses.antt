@@ -60,12 +60,16 @@ module _ (b b' : Bus) (most : ℕ) (same : (e o : ℕ) → 1 ≤ e → e ≤ mos
     carried-same (once x lo hi hit) v T = ap (row (q .size)) (λ i p. once-same x lo hi hit T p (v .0) (v .1) i)
     carried-same (sequence ts) v T = all-same ts v T
     carried-same (branch ts) v T = ap (row (q .size)) (λ i p. any-same ts (v .0) T p i)
-    carried-same (loop least greatest body) v T =
+    carried-same (loop least greatest body test) v T =
+        let F : List X → List X = λ U. carried b q empty join later test (carried b q empty join later body U) in
+        let F' : List X → List X = λ U. carried b' q empty join later test (carried b' q empty join later body U) in
+        let same : (U : List X) → F U ≡ F' U =
+        λ U. carried-same test (v .1) (carried b q empty join later body U) ∙ ap (carried b' q empty join later test) (carried-same body (v .0) U) in
         ap (row (q .size)) (λ i p. from-same empty join least greatest
-        (λ k. getD (iterate (carried b q empty join later body) k T) p empty)
-        (λ k. getD (iterate (carried b' q empty join later body) k T) p empty)
+        (λ k. getD (iterate F k (carried b q empty join later test T)) p empty)
+        (λ k. getD (iterate F' k (carried b' q empty join later test T)) p empty)
         (λ k l m. ap (λ (T : List X). getD T p empty)
-        (iterate-same (carried b q empty join later body) (carried b' q empty join later body) (λ T. carried-same body (v .0) T) k T)) i)
+        (iterate-same F F' same k (carried b q empty join later test T) ∙ ap (iterate F' k) (carried-same test (v .1) T))) i)
 
     pub all-same : (ts : Trees) → Valids most ts → (T : List X) → carriedAll b q empty join later ts T ≡ carriedAll b' q empty join later ts T
     all-same done v T = refl
@@ -110,10 +114,18 @@ module _ (b b' : Bus) (most : ℕ) (same : (e o : ℕ) → 1 ≤ e → e ≤ mos
     cost-same (once x lo hi hit) v X = ap (λ (n : ℕ). max n hit) (access-same lo hi X (v .0) (v .1))
     cost-same (sequence ts) v X = costAll-same ts v X
     cost-same (branch ts) v X = costAny-same ts (v .0) X
-    cost-same (loop least greatest body) v X =
-        sum-same greatest (λ i. cost b body (iterate (exits b body) i X)) (λ i. cost b' body (iterate (exits b' body) i X))
-        (λ i. cost-same body (v .0) (iterate (exits b body) i X)
-        ∙ ap (cost b' body) (iterate-same (exits b body) (exits b' body) (λ X. exits-same body (v .0) X) i X))
+    cost-same (loop least greatest body test) v X =
+        let F : List Bool → List Bool = λ U. exits b test (exits b body U) in
+        let F' : List Bool → List Bool = λ U. exits b' test (exits b' body U) in
+        let same-step : (U : List Bool) → F U ≡ F' U = λ U. exits-same test (v .1) (exits b body U) ∙ ap (exits b' test) (exits-same body (v .0) U) in
+        let turn : List Bool → ℕ = λ Y. cost b body Y + cost b test (exits b body Y) in
+        let turn' : List Bool → ℕ = λ Y. cost b' body Y + cost b' test (exits b' body Y) in
+        let same-turn : (Y : List Bool) → turn Y ≡ turn' Y =
+        λ Y. ap₂ _+_ (cost-same body (v .0) Y) (cost-same test (v .1) (exits b body Y) ∙ ap (cost b' test) (exits-same body (v .0) Y)) in
+        ap₂ _+_ (cost-same test (v .1) X)
+        (sum-same greatest (λ i. turn (iterate F i (exits b test X))) (λ i. turn' (iterate F' i (exits b' test X)))
+        (λ i. same-turn (iterate F i (exits b test X))
+        ∙ ap turn' (iterate-same F F' same-step i (exits b test X) ∙ ap (iterate F' i) (exits-same test (v .1) X))))
 
     costAll-same : (ts : Trees) → Valids most ts → (X : List Bool) → costAll b ts X ≡ costAll b' ts X
     costAll-same done v X = refl

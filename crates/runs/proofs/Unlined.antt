@@ -77,9 +77,9 @@ module _ (t : Task) (ok : ValidTask t) (unlined : (n : ℕ) → n < suc (t .entr
     does-same (one-of {n = n} ns k e i r) h l =
         let (a, m) = does-same r (any-of (λ i. i < suc (t .entry)) i (below (t .bus) flatly (t .nodeAt) (suc (t .entry)) (ok .falls) n _ h e)) l in
         (one-of ns k e i a, m)
-    does-same (repeats {n = n} least greatest body k e i j r) h l =
+    does-same (repeats {n = n} least greatest body test k e i j r) h l =
         let (a, m) = times-same r (below (t .bus) flatly (t .nodeAt) (suc (t .entry)) (ok .falls) n _ h e) l in
-        (repeats least greatest body k e i j a, m)
+        (repeats least greatest body test k e i j a, m)
 
     all-same : {ns : List ℕ} {s s' : State} → DoesAll (t .bus) flatly (t .nodeAt) ns s s' → All (λ i. i < suc (t .entry)) ns → s .at < P
         → DoesAll (t .bus) (placesOf t) (t .nodeAt) ns s s' × (s' .at < P)
@@ -89,13 +89,14 @@ module _ (t : Task) (ok : ValidTask t) (unlined : (n : ℕ) → n < suc (t .entr
         let (b, k) = all-same rs (h .1) m in
         (next a b, k)
 
-    times-same : {k n : ℕ} {s s' : State} → DoesTimes (t .bus) flatly (t .nodeAt) k n s s' → n < suc (t .entry) → s .at < P
-        → DoesTimes (t .bus) (placesOf t) (t .nodeAt) k n s s' × (s' .at < P)
-    times-same enough h l = (enough, l)
-    times-same (again rs r) h l =
+    times-same : {k body test : ℕ} {s s' : State} → DoesTimes (t .bus) flatly (t .nodeAt) k body test s s'
+        → (body < suc (t .entry)) × (test < suc (t .entry)) → s .at < P → DoesTimes (t .bus) (placesOf t) (t .nodeAt) k body test s s' × (s' .at < P)
+    times-same (enough r) h l = let (a, m) = does-same r (h .1) l in (enough a, m)
+    times-same (again rs r u) h l =
         let (a, m) = times-same rs h l in
-        let (b, k) = does-same r h m in
-        (again a b, k)
+        let (b, k) = does-same r (h .0) m in
+        let (c, j) = does-same u (h .1) k in
+        (again a b c, j)
 
   -- so runs end where they end over offsets alone
   to-offsets : (o c : ℕ) → Ends t o c → TreeRun (t .bus) flatly (t .starts) (treeOf t) (on o c)

@@ -24,12 +24,12 @@ module _ {b : Bus} {q : Places} {nodeAt : ℕ → Node} (x : ℕ) where
     executes (later-time y lo hi hit e h r) = eqb y x
     executes (in-order ns e r) = executesAll r
     executes (one-of ns m e i r) = executes r
-    executes (repeats least greatest body k e i j r) = executesTimes r
+    executes (repeats least greatest body test k e i j r) = executesTimes r
 
     pub executesAll : {ns : List ℕ} {s s' : State} → DoesAll b q nodeAt ns s s' → Bool
     executesAll end = false
     executesAll (next r rs) = executes r || executesAll rs
 
-    pub executesTimes : {k n : ℕ} {s s' : State} → DoesTimes b q nodeAt k n s s' → Bool
-    executesTimes enough = false
-    executesTimes (again rs r) = executesTimes rs || executes r
+    pub executesTimes : {k body test : ℕ} {s s' : State} → DoesTimes b q nodeAt k body test s s' → Bool
+    executesTimes (enough r) = executes r
+    executesTimes (again rs r t) = executesTimes rs || (executes r || executes t)

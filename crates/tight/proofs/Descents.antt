@@ -16,10 +16,10 @@ use Rattle.nodes.specs.declared.BusBlock.{BusBlock}
 use Rattle.nodes.specs.declared.Once.{Once as OnceNumbers}
 use Rattle.nodes.specs.declared.Children.{Children}
 use Rattle.nodes.specs.declared.Loop.{Loop as LoopNumbers}
-use Rattle.image.proofs.Walks.{period-same, node-place, as-plain, as-block, as-once, as-sequence, as-branch, as-loop as loop-node}
+use Rattle.image.proofs.Walks.{period-same, node-place, valid-at, as-plain, as-block, as-once, as-sequence, as-branch, as-loop as loop-node}
 use Rattle.nodes.proofs.Fetches.{few-sets}
 use Rattle.tight.specs.Steps.{sizeOf, table, afterAll, Walked, Sized, Steppable, PlainReady, BusReady, OnceReady, Ready, ReadyAll, ReadyRepeat, Branched}
-use Rattle.tight.proofs.Rooms.{room-less, room-fits}
+use Rattle.tight.proofs.Rooms.{room-less, room-fits, room-after}
 use Rattle.tight.proofs.Parts.{as-all, as-any}
 
 -- the sizes of an accepted task's tables
@@ -122,7 +122,7 @@ module _ (s : List ℕ) (k : Walk) (places : List ℕ) (node : ℕ) (t : List �
 
   -- loops
   module _ (l : LoopNumbers) (e : nodeOf s (getD places node 0) ≡ Loop l) where
-    pub repeat-ready : ReadyRepeat s k places node l t
+    pub repeat-ready : ReadyRepeat s k places node l (visits (treeAt s (l .test))) t
     unfolding visits
     repeat-ready =
         let h = loop-node s k places (r .walkable) node (r .low) l e in
@@ -130,10 +130,34 @@ module _ (s : List ℕ) (k : Walk) (places : List ℕ) (node : ℕ) (t : List �
           walkable = r .walkable;
           low = r .low;
           below = h .1;
-          few = h .3;
+          below-test = h .2;
+          few = h .4;
           size = r .size;
           room = room-less k _ _ (table k t) (omega arith) (rw (h .0) at (r .room));
         }
 
-    pub repeat-done : (q : List ℕ) → Walked k (Tree.loop (l .least) (l .greatest) (treeAt s (l .body))) t q → Walked k (treeAt s node) t q
+    pub repeat-done : (q : List ℕ) → Walked k (Tree.loop (l .least) (l .greatest) (treeAt s (l .body)) (treeAt s (l .test))) t q → Walked k (treeAt s node) t q
     repeat-done q h = rw (loop-node s k places (r .walkable) node (r .low) l e .0) h
+
+-- a loop's first test, and what is to come then
+module _ (s : List ℕ) (k : Walk) (places : List ℕ) (node : ℕ) (l : LoopNumbers) (t : List ℕ)
+    (r : ReadyRepeat s k places node l (visits (treeAt s (l .test))) t) where
+  test-low : l .test ≤ k .outline .entry
+  test-low = omega (arith, r .low, r .below-test)
+
+  pub first-ready : Ready s k places (l .test) t
+  first-ready = record { walkable = r .walkable; low = test-low; size = r .size; room = room-less k _ _ (table k t) (omega arith) (r .room) }
+
+  pub turns-ready : (t₁ : List ℕ) → Walked k (treeAt s (l .test)) t t₁ → ReadyRepeat s k places node l 0 t₁
+  turns-ready t₁ h = record {
+    walkable = r .walkable;
+    low = r .low;
+    below = r .below;
+    below-test = r .below-test;
+    few = r .few;
+    size = omega (arith, h .size, r .size);
+    room =
+        rw (h .steps)
+        (room-after s k places (r .walkable) (treeAt s (l .test)) (valid-at s k places (r .walkable) (l .test) test-low) _ (table k t)
+        (room-less k _ _ (table k t) (omega arith) (r .room)));
+  }

@@ -1,16 +1,12 @@
 -- A node's table from its children's: a sequence, a branch, a loop.
-use mathlib.Core.Path.{_≡_}
-use mathlib.Core.Option.{none}
+use mathlib.Core.Path.{_≡_, _∙_}
 use mathlib.Core.List.{List}
 use Prim.Native.Nat.{ℕ}
 use Rattle.runs.specs.Clock.{withLines}
-use Rattle.runs.specs.Nodes.{Tree, Trees}
+use Rattle.runs.specs.Nodes.{Tree, Trees, none, more}
 use Rattle.runs.specs.Carried.{carried}
-use Rattle.runs.specs.Figures.{longer}
-use Rattle.runs.proofs.Joins.{longer-joins}
-use Rattle.runs.proofs.Loops.{unrolled-all}
 use Rattle.image.specs.declared.Walk.{Walk}
-use Rattle.tight.specs.Steps.{sizeOf, table, Stepped, after, afterAll, BegunAt, UnrolledAt, Branched}
+use Rattle.tight.specs.Steps.{table, Stepped, afterAll, Walked, Branched, Repeated}
 use Rattle.tight.proofs.Tables.{table-is}
 
 module _ (k : Walk) (x : Tree) (t : List ℕ) where
@@ -22,9 +18,11 @@ module _ (k : Walk) (x : Tree) (t : List ℕ) where
   unfolding carried withLines
   as-any xs r e h = rw e (table-is k r _ h)
 
-  pub as-loop : (body : Tree) (least greatest : ℕ) (out cur' out' : List ℕ) → x ≡ Tree.loop least greatest body → BegunAt k least t out
-      → UnrolledAt k body least 0 greatest t out cur' out' → Stepped k x t out'
+  -- the test, and then the iterations, a test after each
+  pub as-loop : (body test : Tree) (least greatest : ℕ) (t₁ r : List ℕ) → x ≡ Tree.loop least greatest body test → Walked k test t t₁
+      → Repeated k (more body (more test none)) least greatest t₁ r → Walked k x t r
   unfolding carried withLines
-  as-loop body least greatest out cur' out' e g u =
-      rw e
-      (table-is k out' _ (unrolled-all none longer longer-joins (sizeOf k) (after k body) least greatest (table k t) _ _ _ _ g u))
+  as-loop body test least greatest t₁ r e first u = record {
+    size = u .size ∙ first .size;
+    steps = rw e (rw (first .steps) at (table-is k r _ (u .joins)));
+  }

@@ -9,18 +9,18 @@ use native.Mathlib.Omega.{arith}
 use Prim.Native.Nat.{ℕ, zero, suc, _+_, _-_, _*_, _≤_}
 use Rattle.runs.specs.Schedules.{owning}
 use Rattle.runs.specs.Clock.{Turning, withLines}
-use Rattle.runs.specs.Nodes.{Tree, visits}
-use Rattle.runs.specs.Carried.{iterate}
+use Rattle.runs.specs.Nodes.{Tree, Trees, none as done, more, visits, visitsAll}
+use Rattle.runs.specs.Carried.{iterate, carried}
 use Rattle.runs.specs.Figures.{Time}
 use Rattle.runs.proofs.LinesLaws.{lines-turn}
-use Rattle.runs.proofs.Executions.{Valid}
+use Rattle.runs.proofs.Executions.{Valid, Valids}
 use Rattle.runs.proofs.Bounds.{times-bounded}
 use Rattle.bus.specs.Owning.{busMeant}
 use Rattle.image.specs.Walks.{Walkable}
 use Rattle.image.specs.declared.Walk.{Walk}
 use Rattle.image.proofs.Walks.{walk-lawful, walk-small}
 use Rattle.times.specs.Arrays.{noTime, timeOf, Fits}
-use Rattle.tight.specs.Steps.{sizeOf, table, after, Roomy}
+use Rattle.tight.specs.Steps.{sizeOf, table, after, afterAll, Roomy}
 use Rattle.tight.proofs.Tables.{table-at}
 
 pub room-less : (k : Walk) (m n : ℕ) (T : List Time) → m ≤ n → Roomy k n T → Roomy k m T
@@ -52,10 +52,16 @@ module _ (s : List ℕ) (k : Walk) (places : List ℕ) (w : Walkable s k places)
         );
   }
 
-  pub room-times : (x : Tree) → Valid (busMeant (k .bus) .most) x → (n m : ℕ) (T : List Time)
-      → Roomy k (65535 * (n * visits x) + m) T → Roomy k m (iterate (after k x) n T)
+  -- after trees in order, and after n times all of them
+  room-all : (xs : Trees) → Valids (busMeant (k .bus) .most) xs → (m : ℕ) (T : List Time) → Roomy k (65535 * visitsAll xs + m) T → Roomy k m (afterAll k xs T)
+  unfolding Valid visits carried
+  room-all done v m T r = room-less k m _ T (omega arith) r
+  room-all (more x xs) v m T r = room-all xs (v .1) m (after k x T) (room-after x (v .0) _ T (room-less k _ _ T (omega arith) r))
+
+  pub room-times : (xs : Trees) → Valids (busMeant (k .bus) .most) xs → (n m : ℕ) (T : List Time)
+      → Roomy k (65535 * (n * visitsAll xs) + m) T → Roomy k m (iterate (afterAll k xs) n T)
   unfolding iterate
-  room-times x v zero m T r = room-less k m _ T (omega arith) r
-  room-times x v (suc n) m T r =
-      room-after x v m (iterate (after k x) n T)
-      (room-times x v n (65535 * visits x + m) T (room-less k _ _ T (omega arith) r))
+  room-times xs v zero m T r = room-less k m _ T (omega arith) r
+  room-times xs v (suc n) m T r =
+      room-all xs v m (iterate (afterAll k xs) n T)
+      (room-times xs v n (65535 * visitsAll xs + m) T (room-less k _ _ T (omega arith) r))

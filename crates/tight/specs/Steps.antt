@@ -7,11 +7,11 @@ use Prim.Native.Nat.{ℕ, _+_, _-_, _*_, _≤_, _<_}
 use Rattle.runs.specs.Lines.{power}
 use Rattle.runs.specs.Clock.{withLines}
 use Rattle.runs.specs.Nodes.{Tree, Trees, visits, visitsAll}
-use Rattle.runs.specs.Carried.{carriedAll, carriedAny}
+use Rattle.runs.specs.Carried.{iterate, joinFrom, carriedAll, carriedAny}
 use Rattle.runs.specs.Figures.{Time, longer, later, times}
 use Rattle.runs.specs.Parts.{Unrolled, shifted}
 use Rattle.bus.specs.Owning.{busMeant, Fit}
-use Rattle.nodes.specs.Nodes.{treeAt, childTrees}
+use Rattle.nodes.specs.Nodes.{treeAt, childTrees, turnTrees}
 use Rattle.image.specs.Walks.{Walkable, NamedChildren}
 use Rattle.image.specs.declared.Walk.{Walk}
 use Rattle.nodes.specs.declared.Loop.{Loop}
@@ -93,14 +93,15 @@ pub record ReadyAll (s : List ℕ) (k : Walk) (places : List ℕ) (node place co
   pub size : sizeOf k ≤ length t
   pub room : Roomy k (65535 * visitsAll (childTrees s place count)) (table k t)
 
--- the walk of a loop
-pub record ReadyRepeat (s : List ℕ) (k : Walk) (places : List ℕ) (node : ℕ) (l : Loop) (t : List ℕ) : Type 0 where
+-- the walk of a loop: its iterations are to come, and before them `first` visits of its test
+pub record ReadyRepeat (s : List ℕ) (k : Walk) (places : List ℕ) (node : ℕ) (l : Loop) (first : ℕ) (t : List ℕ) : Type 0 where
   pub walkable : Walkable s k places
   pub low : node ≤ k .outline .entry
   pub below : l .body < node
+  pub below-test : l .test < node
   pub few : l .greatest ≤ 10000
   pub size : sizeOf k ≤ length t
-  pub room : Roomy k (65535 * (l .greatest * visits (treeAt s (l .body)))) (table k t)
+  pub room : Roomy k (65535 * (l .greatest * visitsAll (turnTrees s (l .body) (l .test)) + first)) (table k t)
 
 -- ---- loops
 
@@ -111,34 +112,54 @@ BegunAt k least t out = BegunBy (sizeOf k) least t out
 abbrev pub TurnedAt : Walk → ℕ → ℕ → List ℕ → List ℕ → List ℕ → Type 0
 TurnedAt k least done out next out' = TurnedBy (sizeOf k) least done out next out'
 
-abbrev pub UnrolledAt : Walk → Tree → ℕ → ℕ → ℕ → List ℕ → List ℕ → List ℕ → List ℕ → Type 0
-UnrolledAt k body least done n cur out cur' out' =
-    Unrolled none longer (sizeOf k) (after k body) least done n (table k cur) (table k out) (table k cur') (table k out')
+abbrev pub UnrolledAt : Walk → Trees → ℕ → ℕ → ℕ → List ℕ → List ℕ → List ℕ → List ℕ → Type 0
+UnrolledAt k xs least done n cur out cur' out' =
+    Unrolled none longer (sizeOf k) (afterAll k xs) least done n (table k cur) (table k out) (table k cur') (table k out')
 
 -- what is seen of a loop is true of the table now and of the kept one
-abbrev pub WatchesAt : Walk → Tree → List ℕ → List ℕ → Watch → Type 0
-WatchesAt k x cur old w = Watches (after k x) shifted (table k cur) (table k old) w
+abbrev pub WatchesAt : Walk → Trees → List ℕ → List ℕ → Watch → Type 0
+WatchesAt k xs cur old w = Watches (afterAll k xs) shifted (table k cur) (table k old) w
 
--- `left` iterations of a loop's body are to come
-pub record ReadyLoop (s : List ℕ) (k : Walk) (places : List ℕ) (body left : ℕ) (w : Watch) (cur out old : List ℕ) : Type 0 where
+-- an iteration of a loop is to come
+pub record ReadyTurn (s : List ℕ) (k : Walk) (places : List ℕ) (body test : ℕ) (cur : List ℕ) : Type 0 where
   pub walkable : Walkable s k places
   pub low : body ≤ k .outline .entry
+  pub low-test : test ≤ k .outline .entry
+  pub size : sizeOf k ≤ length cur
+  pub room : Roomy k (65535 * visitsAll (turnTrees s body test)) (table k cur)
+
+-- an array as long as t whose table is t's after the trees in order
+pub record WalkedAll (k : Walk) (xs : Trees) (t r : List ℕ) : Type 0 where
+  pub size : length r ≡ length t
+  pub steps : table k r ≡ afterAll k xs (table k t)
+
+-- `left` iterations of a loop are to come
+pub record ReadyLoop (s : List ℕ) (k : Walk) (places : List ℕ) (body test left : ℕ) (w : Watch) (cur out old : List ℕ) : Type 0 where
+  pub walkable : Walkable s k places
+  pub low : body ≤ k .outline .entry
+  pub low-test : test ≤ k .outline .entry
   pub few : w .done + left ≤ 10000
   pub size : sizeOf k ≤ length cur
   pub size-out : sizeOf k ≤ length out
   pub size-old : sizeOf k ≤ length old
-  pub room : Roomy k (65535 * (left * visits (treeAt s body))) (table k cur)
+  pub room : Roomy k (65535 * (left * visitsAll (turnTrees s body test))) (table k cur)
   pub small : Small w
-  pub watches : WatchesAt k (treeAt s body) cur old w
+  pub watches : WatchesAt k (turnTrees s body test) cur old w
 
 -- those that were done: all, or, once a cycle is found, some of them
-pub record Unrolls (k : Walk) (body : Tree) (least left : ℕ) (w : Watch) (cur out old : List ℕ) (r : Watch) (cur' out' old' : List ℕ) : Type 0 where
+pub record Unrolls (k : Walk) (xs : Trees) (least left : ℕ) (w : Watch) (cur out old : List ℕ) (r : Watch) (cur' out' old' : List ℕ) : Type 0 where
   pub goes : Goes left w r
   pub size : length cur' ≡ length cur
   pub size-out : length out' ≡ length out
   pub size-old : length old' ≡ length old
-  pub unrolled : UnrolledAt k body least (w .done) (r .done - w .done) cur out cur' out'
-  pub watches : WatchesAt k body cur' old' r
+  pub unrolled : UnrolledAt k xs least (w .done) (r .done - w .done) cur out cur' out'
+  pub watches : WatchesAt k xs cur' old' r
+
+-- an array as long as t that holds at each place what the permitted counts of iterations join there
+pub record Repeated (k : Walk) (xs : Trees) (least greatest : ℕ) (t r : List ℕ) : Type 0 where
+  pub size : length r ≡ length t
+  pub joins : (o : ℕ) → o < sizeOf k
+      → getD (table k r) o none ≡ joinFrom none longer least greatest (λ i. getD (iterate (afterAll k xs) i (table k t)) o none)
 
 -- an array that holds at each place what the arms of a branch join there
 abbrev pub Branched : Walk → Trees → List ℕ → List ℕ → Type 0

@@ -11,10 +11,10 @@
 ghost use mathlib.Core.Path.{_≡_};
 ghost use lib.ListN.{length};
 ghost use Prim.Native.Nat.{_≤_};
-ghost use Rattle.nodes.specs.Nodes.{treeAt, childTrees, kindMeant};
-ghost use Rattle.runs.specs.Nodes.{Tree};
+ghost use Rattle.nodes.specs.Nodes.{treeAt, childTrees, turnTrees, kindMeant};
+ghost use Rattle.runs.specs.Nodes.{Tree, visits};
 ghost use Rattle.iterations.specs.Iterations.{Empty};
-ghost use Rattle.tight.specs.Steps.{sizeOf, table, afterAll, Walked, Sized, PlainReady, BusReady, OnceReady, Ready, ReadyAll, ReadyRepeat, ReadyLoop, Unrolls, Branched};
+ghost use Rattle.tight.specs.Steps.{sizeOf, table, afterAll, Walked, Sized, PlainReady, BusReady, OnceReady, Ready, ReadyAll, ReadyRepeat, ReadyTurn, ReadyLoop, WalkedAll, Unrolls, Branched, Repeated};
 use cycles::Watch;
 use image::Walk;
 use lined::Step;
@@ -161,11 +161,12 @@ fn arms(
     times::copy(t, out, n);
 }
 
-// The times after a loop.
+// The times after a loop: the test comes first, and then the iterations, a test after each.
 fn repeat(image: &[u8], places: &[usize; 256], k: Walk, node: usize, l: Loop, t: &mut [u64])
-    requires { ⌜ ReadyRepeat (now image) k (now places) node l (now t) ⌝ }
-    ensures { λ _. ⌜ Walked k (Tree.loop (l .least) (l .greatest) (treeAt (now (image .entry)) (l .body))) (now (t .entry)) (now (t .exit)) ⌝ }
+    requires { ⌜ ReadyRepeat (now image) k (now places) node l (visits (treeAt (now image) (l .test))) (now t) ⌝ }
+    ensures { λ _. ⌜ Walked k (Tree.loop (l .least) (l .greatest) (treeAt (now (image .entry)) (l .body)) (treeAt (now (image .entry)) (l .test))) (now (t .entry)) (now (t .exit)) ⌝ }
 {
+    walk(image, places, k, l.test, t);
     if 1 < k.outline.sets {
         wide_repeat(image, places, k, node, l, t);
         return;
@@ -175,17 +176,17 @@ fn repeat(image: &[u8], places: &[usize; 256], k: Walk, node: usize, l: Loop, t:
     turns(image, places, k, node, l, t, &mut exits, &mut old);
 }
 
-// The same where the image has lines.
+// The iterations where the image has lines.
 fn wide_repeat(image: &[u8], places: &[usize; 256], k: Walk, node: usize, l: Loop, t: &mut [u64])
-    requires { ⌜ ReadyRepeat (now image) k (now places) node l (now t) ⌝ }
-    ensures { λ _. ⌜ Walked k (Tree.loop (l .least) (l .greatest) (treeAt (now (image .entry)) (l .body))) (now (t .entry)) (now (t .exit)) ⌝ }
+    requires { ⌜ ReadyRepeat (now image) k (now places) node l 0 (now t) ⌝ }
+    ensures { λ _. ⌜ Repeated k (turnTrees (now (image .entry)) (l .body) (l .test)) (l .least) (l .greatest) (now (t .entry)) (now (t .exit)) ⌝ }
 {
     let mut exits = [18446744073709551615u64; 1024];
     let mut old = [18446744073709551615u64; 1024];
     turns(image, places, k, node, l, t, &mut exits, &mut old);
 }
 
-// A loop unrolled until a cycle is found or all is done, whole cycles skipped, and the rest unrolled. The exits are joined to `out`; `old` is what is kept for the watch.
+// The iterations unrolled until a cycle is found or all is done, whole cycles skipped, and the rest unrolled. The exits are joined to `out`; `old` is what is kept for the watch.
 fn turns(
     image: &[u8],
     places: &[usize; 256],
@@ -196,8 +197,8 @@ fn turns(
     out: &mut [u64],
     old: &mut [u64],
 )
-    requires { ⌜ (ReadyRepeat (now image) k (now places) node l (now t)) × Empty (sizeOf k) (now out) × (sizeOf k ≤ length (now old)) ⌝ }
-    ensures { λ _. ⌜ Walked k (Tree.loop (l .least) (l .greatest) (treeAt (now (image .entry)) (l .body))) (now (t .entry)) (now (t .exit)) ⌝ }
+    requires { ⌜ (ReadyRepeat (now image) k (now places) node l 0 (now t)) × Empty (sizeOf k) (now out) × (sizeOf k ≤ length (now old)) ⌝ }
+    ensures { λ _. ⌜ Repeated k (turnTrees (now (image .entry)) (l .body) (l .test)) (l .least) (l .greatest) (now (t .entry)) (now (t .exit)) ⌝ }
 {
     let n = size(k);
     iterations::before_first(n, l.least, t, out);
@@ -214,6 +215,7 @@ fn turns(
         places,
         k,
         l.body,
+        l.test,
         l.least,
         l.greatest,
         begun,
@@ -228,6 +230,7 @@ fn turns(
         places,
         k,
         l.body,
+        l.test,
         l.least,
         l.greatest - rest.done,
         rest,
@@ -238,12 +241,29 @@ fn turns(
     times::copy(t, out, n);
 }
 
+// One iteration: the body, and the test that follows it.
+fn iteration(
+    image: &[u8],
+    places: &[usize; 256],
+    k: Walk,
+    body: usize,
+    test: usize,
+    cur: &mut [u64],
+)
+    requires { ⌜ ReadyTurn (now image) k (now places) body test (now cur) ⌝ }
+    ensures { λ _. ⌜ WalkedAll k (turnTrees (now (image .entry)) body test) (now (cur .entry)) (now (cur .exit)) ⌝ }
+{
+    walk(image, places, k, body, cur);
+    walk(image, places, k, test, cur);
+}
+
 // `left` iterations more, as two halves; none once a cycle is found.
 fn unroll(
     image: &[u8],
     places: &[usize; 256],
     k: Walk,
     body: usize,
+    test: usize,
     least: usize,
     left: usize,
     w: Watch,
@@ -251,8 +271,8 @@ fn unroll(
     out: &mut [u64],
     old: &mut [u64],
 ) -> Watch
-    requires { ⌜ ReadyLoop (now image) k (now places) body left w (now cur) (now out) (now old) ⌝ }
-    ensures { λ r. ⌜ Unrolls k (treeAt (now (image .entry)) body) least left w (now (cur .entry)) (now (out .entry)) (now (old .entry)) r (now (cur .exit)) (now (out .exit)) (now (old .exit)) ⌝ }
+    requires { ⌜ ReadyLoop (now image) k (now places) body test left w (now cur) (now out) (now old) ⌝ }
+    ensures { λ r. ⌜ Unrolls k (turnTrees (now (image .entry)) body test) least left w (now (cur .entry)) (now (out .entry)) (now (old .entry)) r (now (cur .exit)) (now (out .exit)) (now (old .exit)) ⌝ }
 {
     if left == 0 {
         return w;
@@ -261,11 +281,23 @@ fn unroll(
         return w;
     }
     if left == 1 {
-        walk(image, places, k, body, cur);
+        iteration(image, places, k, body, test, cur);
         iterations::joined(size(k), least, w.done, cur, out);
         return iterations::watched(size(k), cur, old, w);
     }
     let half = left / 2;
-    let a = unroll(image, places, k, body, least, half, w, cur, out, old);
-    unroll(image, places, k, body, least, left - half, a, cur, out, old)
+    let a = unroll(image, places, k, body, test, least, half, w, cur, out, old);
+    unroll(
+        image,
+        places,
+        k,
+        body,
+        test,
+        least,
+        left - half,
+        a,
+        cur,
+        out,
+        old,
+    )
 }

@@ -62,6 +62,12 @@ add-word-4 c = search needs
 word-requires-6 : tie.Need-word-requires-6
 word-requires-6 c κs = search needs
 
+add-word-5 : tie.Need-add-word-5
+add-word-5 c = search needs
+
+word-requires-7 : tie.Need-word-requires-7
+word-requires-7 c κs = search needs
+
 byte-requires-5 : tie.Need-byte-requires-5
 byte-requires-5 c κs = search needs
 
@@ -77,11 +83,11 @@ add-byte-4 c = search needs
 byte-requires-7 : tie.Need-byte-requires-7
 byte-requires-7 c κs = search needs
 
-add-word-5 : tie.Need-add-word-5
-add-word-5 c = search needs
+add-word-6 : tie.Need-add-word-6
+add-word-6 c = search needs
 
-word-requires-7 : tie.Need-word-requires-7
-word-requires-7 c κs = search needs
+word-requires-8 : tie.Need-word-requires-8
+word-requires-8 c κs = search needs
 
 returns : tie.Need-returns
 unfolding nodeFrom
@@ -106,10 +112,11 @@ returns-4 : tie.Need-returns-4
 unfolding nodeFrom
 returns-4 c =
     rw (
-      sym (c .before .before .before .before .before .byte .ensures .0) ∙ c .before .before .before .match .keys3,
-      c .before .before .word4 .ensures .0,
-      c .before .word5 .ensures .0,
-      c .word6 .ensures .0,
+      sym (c .before .before .before .before .before .before .byte .ensures .0) ∙ c .before .before .before .before .match .keys3,
+      c .before .before .before .word4 .ensures .0,
+      c .before .before .word5 .ensures .0,
+      c .before .word6 .ensures .0,
+      c .word7 .ensures .0,
     )
 
 returns-5 : tie.Need-returns-5
@@ -120,7 +127,7 @@ returns-5 c =
       c .before .before .before .byte5 .ensures .0,
       c .before .before .byte6 .ensures .0,
       c .before .byte7 .ensures .0,
-      c .word7 .ensures .0,
+      c .word8 .ensures .0,
     )
 
 returns-6 : tie.Need-returns-6
@@ -175,13 +182,15 @@ node-at-spec =
     word-requires-5
     add-word-4
     word-requires-6
+    add-word-5
+    word-requires-7
     byte-requires-5
     add-byte-3
     byte-requires-6
     add-byte-4
     byte-requires-7
-    add-word-5
-    word-requires-7
+    add-word-6
+    word-requires-8
     returns
     returns-2
     returns-3

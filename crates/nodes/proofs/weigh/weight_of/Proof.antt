@@ -2,13 +2,9 @@
 use Rattle.runs.specs.Nodes.{treeBy, depth, visits as visited}
 use Rattle.nodes.specs.Nodes.{meant}
 use Rattle.nodes.specs.Fine.{Fine}
-use Rattle.schedule.proofs.Numbers.{product-fits}
-use Rattle.nodes.proofs.Numbers.{cap-times}
 use Rattle.nodes.proofs.Levels.{inside-here, few-here, fine-here, tree-here}
 use mathlib.Core.Path.{_≡_, sym, _∙_}
-use Prim.Native.Nat.{ℕ, _+_, _*_, _≤_, _<_, min}
-use native.Mathlib.Nat.{mul-le-mul}
-use lib.ListN.{getD}
+use Prim.Native.Nat.{ℕ, _+_, min}
 use native.Mathlib.Omega.{arith}
 use borrow.Author.Needs.{needs}
 use Rattle.nodes.proofs.weigh.weight_of.Statement.{statement}
@@ -17,6 +13,9 @@ use Rattle.nodes.proofs.weigh.weight_of.Tie as tie
 -- a node is one level deeper than its children, and has one visit more
 one-deeper : (r x : ℕ) → r ≡ min 25 x → min 25 (1 + r) ≡ min 25 (1 + x)
 one-deeper r x e = omega arith
+
+one-more-turn : (r x y : ℕ) → min 100001 r ≡ min 100001 (x + y) → min 100001 (1 + r) ≡ min 100001 (1 + x + y)
+one-more-turn r x y e = omega arith
 
 one-more : (r x : ℕ) → min 100001 r ≡ min 100001 x → min 100001 (1 + r) ≡ min 100001 (1 + x)
 one-more r x e = omega arith
@@ -85,60 +84,16 @@ above-requires-5 c κs =
 enum-known-node-3 : tie.Need-enum-known-node-3
 enum-known-node-3 c = search needs
 
-mul-t17 : tie.Need-mul-t17
+over-turns-requires : tie.Need-over-turns-requires
 unfolding Fine
-mul-t17 c =
+over-turns-requires c κs =
     let start = c .before .before .before .before .before in
     let e = sym (c .before .before .before .node-at .ensures) ∙ c .before .node3 .given .1 in
     let f = fine-here _ _ _ (start .pre .0) _ e in
-    let h : c .before .node3 .given .0 .0 .body < 256 = omega (arith, f .1, few-here _ _ _ (start .pre .0)) in omega arith
-
-element-copy-out-t20 : tie.Need-element-copy-out-t20
-unfolding Fine
-element-copy-out-t20 c =
-    let start = c .before .before .before .before .before in
-    let e = sym (c .before .before .before .node-at .ensures) ∙ c .before .node3 .given .1 in
-    let f = fine-here _ _ _ (start .pre .0) _ e in
-    let h : c .before .node3 .given .0 .0 .body < 256 = omega (arith, f .1, few-here _ _ _ (start .pre .0)) in h
-
-mul-t21 : tie.Need-mul-t21
-unfolding Fine
-mul-t21 c =
-    let start = c .before .before .before .before .before .before in
-    let e = sym (c .before .before .before .before .node-at .ensures) ∙ c .before .before .node3 .given .1 in
-    let f = fine-here _ _ _ (start .pre .0) _ e in
-    let h : c .before .before .node3 .given .0 .0 .body < 256 = omega (arith, f .1, few-here _ _ _ (start .pre .0)) in omega arith
-
-element-copy-out-t24 : tie.Need-element-copy-out-t24
-unfolding Fine
-element-copy-out-t24 c =
-    let start = c .before .before .before .before .before .before in
-    let e = sym (c .before .before .before .before .node-at .ensures) ∙ c .before .before .node3 .given .1 in
-    let f = fine-here _ _ _ (start .pre .0) _ e in
-    let h : c .before .before .node3 .given .0 .0 .body < 256 = omega (arith, f .1, few-here _ _ _ (start .pre .0)) in h
-
-mul-t25 : tie.Need-mul-t25
-unfolding Fine
-mul-t25 c =
-    let start = c .before .before .before .before .before .before .before .before in
-    let e = sym (c .before .before .before .before .before .before .node-at .ensures) ∙ c .before .before .before .before .node3 .given .1 in
-    let f = fine-here _ _ _ (start .pre .0) _ e in
-    let l = c .before .before .before .before .node3 .given .0 .0 in
-    let v = getD (start .args .visits .now) (l .body) 0 in
-    let low : v ≤ 100001 = omega (arith, start .pre .1 .long (l .body) (f .1)) in
-    product-fits (l .greatest) v (omega (arith, f .0 .most)) (omega arith)
+    (f .0 .most, f .1, f .2, omega (arith, few-here _ _ _ (start .pre .0)), start .pre .1)
 
 above-requires-6 : tie.Need-above-requires-6
-unfolding Fine
-above-requires-6 c κs =
-    let start = c .before .before .before .before .before .before .before .before in
-    let e = sym (c .before .before .before .before .before .before .node-at .ensures) ∙ c .before .before .before .before .node3 .given .1 in
-    let f = fine-here _ _ _ (start .pre .0) _ e in
-    let l = c .before .before .before .before .node3 .given .0 .0 in
-    let v = getD (start .args .visits .now) (l .body) 0 in
-    let low : v ≤ 100001 = omega (arith, start .pre .1 .long (l .body) (f .1)) in
-    let most : l .greatest * v ≤ 10000 * 100001 = mul-le-mul (f .0 .most) low in
-    (omega (arith, start .pre .1 .deep (l .body) (f .1)), omega arith)
+above-requires-6 c κs = let w = c .over-turns .ensures in (omega (arith, w .deep), w .most)
 
 returns : tie.Need-returns
 unfolding treeBy meant depth visited
@@ -178,18 +133,14 @@ returns-5 c =
     record { deep = rw t (c .above5 .ensures .0 ∙ one-deeper _ _ (w .deep)); long = rw t (c .above5 .ensures .1 ∙ one-more _ _ (w .long)) }
 
 returns-6 : tie.Need-returns-6
-unfolding treeBy meant depth visited Fine
+unfolding treeBy meant depth visited
 returns-6 c =
-    let start = c .before .before .before .before .before .before .before .before .before in
-    let e = sym (c .before .before .before .before .before .before .before .node-at .ensures) ∙ c .before .before .before .before .before .node3 .given .1 in
-    let f = fine-here _ _ _ (start .pre .0) _ e in
-    let l = c .before .before .before .before .before .node3 .given .0 .0 in
-    let t = tree-here _ _ _ (start .pre .0) _ e in
-    let d = start .pre .1 .deep (l .body) (f .1) in
-    let v = start .pre .1 .long (l .body) (f .1) in
+    let start = c .before .before .before .before .before .before .before in
+    let t = tree-here _ _ _ (start .pre .0) _ (sym (c .before .before .before .before .before .node-at .ensures) ∙ c .before .before .before .node3 .given .1) in
+    let w = c .before .over-turns .ensures in
     record {
-      deep = rw t (c .above6 .ensures .0 ∙ one-deeper _ _ d);
-      long = rw t (c .above6 .ensures .1 ∙ one-more _ _ (rw v (cap-times 100001 (l .greatest) _)));
+      deep = rw t (c .above6 .ensures .0 ∙ one-deeper _ _ (w .deep));
+      long = rw t (c .above6 .ensures .1 ∙ one-more-turn _ _ _ (w .long));
     }
 
 pub weight-of-spec : {M : Type 1} → statement M
@@ -210,11 +161,7 @@ weight-of-spec =
     over-children-requires-2
     above-requires-5
     enum-known-node-3
-    mul-t17
-    element-copy-out-t20
-    mul-t21
-    element-copy-out-t24
-    mul-t25
+    over-turns-requires
     above-requires-6
     returns
     returns-2

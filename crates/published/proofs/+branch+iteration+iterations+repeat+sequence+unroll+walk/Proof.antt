@@ -1,6 +1,6 @@
 -- The node walk and the loop unroller call each other; the pair of node number and iterations left falls. Each need is one law of
 -- Children, Descents, Parts or Loops.
-use mathlib.Core.Path.{_≡_, sym, _∙_, ap}
+use mathlib.Core.Path.{_≡_, refl, sym, _∙_, ap}
 use mathlib.Core.Bool.{Bool, false, _||_}
 use lib.ListN.{getD}
 use native.Mathlib.Nat.{add-zero, zero-add, sub-zero}
@@ -8,15 +8,15 @@ use Rattle.runs.specs.Nodes.{visitsAll}
 use Rattle.runs.specs.Figures.{costAll, costAny}
 use Rattle.runs.proofs.Joins.{or-joins}
 use Rattle.bus.specs.Owning.{busMeant}
-use Rattle.nodes.specs.Nodes.{treeAt, childTrees}
+use Rattle.nodes.specs.Nodes.{childTrees, turnTrees}
 use Rattle.image.proofs.Walks.{all-done, any-done}
 use Rattle.exits.specs.Exits.{Within}
 use Rattle.published.specs.Steps.{bits, afterAll, afterAny}
 use Rattle.published.proofs.Joins.{empty-at, empty-within, join-within}
-use Rattle.published.proofs.Parts.{cost-all-done, cost-any-done}
-use Rattle.published.proofs.Children.{outcome-small, child-low, visits-split, child-ready, child-small, next-in-order, next-cost, next-arm, next-arm-cost}
-use Rattle.published.proofs.Descents.{in-image, in-places, plain-ready, plain-done, block-ready, block-done, once-ready, once-done, sequence-ready, sequence-done, branch-ready, branch-done, repeat-ready, repeat-done}
-use Rattle.published.proofs.Loops.{one-ready, half-ready, other-ready, none-unrolls, one-asks, one-unrolls, both-unroll, begun-ready, seen-few, seen-ready, seen-cheap, skip-few, rest-ready, repeat-published}
+use Rattle.published.proofs.Parts.{cost-all-done, cost-any-done, as-loop}
+use Rattle.published.proofs.Children.{child-low, visits-split, child-ready, child-small, next-in-order, next-cost, next-arm, next-arm-cost}
+use Rattle.published.proofs.Descents.{in-image, in-places, plain-ready, plain-done, block-ready, block-done, once-ready, once-done, sequence-ready, sequence-done, branch-ready, branch-done, repeat-ready, repeat-done, first-ready, turns-ready, turns-small}
+use Rattle.published.proofs.Loops.{one-ready, half-ready, other-ready, none-unrolls, one-cheap, one-asks, one-unrolls, both-unroll, body-ready, test-ready, turn-small, turn-published, begun-ready, seen-few, seen-ready, seen-cheap, skip-few, rest-ready, repeat-published}
 use native.Mathlib.Omega.{arith}
 use borrow.Author.Needs.{needs}
 use Prim.Native.Nat.{ℕ, _+_, _-_, _*_, _/_, _≤_, _<_, max}
@@ -24,19 +24,25 @@ use borrow.Fn.Kinds.{In}
 use borrow.Fn.PlainCycle.{Measures, is, falls, and}
 use Rattle.published.proofs.branch.Reads as branch
 use Rattle.published.proofs.branch.Kinds as branch-kinds
-use Rattle.published.proofs.+branch+repeat+sequence+unroll+walk.Lts-branch as branch-lts
+use Rattle.published.proofs.+branch+iteration+iterations+repeat+sequence+unroll+walk.Lts-branch as branch-lts
+use Rattle.published.proofs.iteration.Reads as iteration
+use Rattle.published.proofs.iteration.Kinds as iteration-kinds
+use Rattle.published.proofs.+branch+iteration+iterations+repeat+sequence+unroll+walk.Lts-iteration as iteration-lts
+use Rattle.published.proofs.iterations.Reads as iterations
+use Rattle.published.proofs.iterations.Kinds as iterations-kinds
+use Rattle.published.proofs.+branch+iteration+iterations+repeat+sequence+unroll+walk.Lts-iterations as iterations-lts
 use Rattle.published.proofs.repeat.Reads as repeat
 use Rattle.published.proofs.repeat.Kinds as repeat-kinds
-use Rattle.published.proofs.+branch+repeat+sequence+unroll+walk.Lts-repeat as repeat-lts
+use Rattle.published.proofs.+branch+iteration+iterations+repeat+sequence+unroll+walk.Lts-repeat as repeat-lts
 use Rattle.published.proofs.sequence.Reads as sequence
 use Rattle.published.proofs.sequence.Kinds as sequence-kinds
-use Rattle.published.proofs.+branch+repeat+sequence+unroll+walk.Lts-sequence as sequence-lts
+use Rattle.published.proofs.+branch+iteration+iterations+repeat+sequence+unroll+walk.Lts-sequence as sequence-lts
 use Rattle.published.proofs.unroll.Reads as unroll
 use Rattle.published.proofs.unroll.Kinds as unroll-kinds
-use Rattle.published.proofs.+branch+repeat+sequence+unroll+walk.Lts-unroll as unroll-lts
+use Rattle.published.proofs.+branch+iteration+iterations+repeat+sequence+unroll+walk.Lts-unroll as unroll-lts
 use Rattle.published.proofs.walk.Reads as walk
 use Rattle.published.proofs.walk.Kinds as walk-kinds
-use Rattle.published.proofs.+branch+repeat+sequence+unroll+walk.Lts-walk as walk-lts
+use Rattle.published.proofs.+branch+iteration+iterations+repeat+sequence+unroll+walk.Lts-walk as walk-lts
 use Rattle.nodes.proofs.node_at.Reads as node-at-reads
 use Rattle.bytes.proofs.word.Reads as word-reads
 use Rattle.offsets.proofs.empty.Reads as empty-reads
@@ -49,31 +55,51 @@ use Rattle.published.proofs.once_outcome.Reads as once-outcome-reads
 use Rattle.published.proofs.plain_outcome.Reads as plain-outcome-reads
 use Rattle.published.proofs.skipped.Reads as skipped-reads
 use Rattle.published.proofs.watched.Reads as watched-reads
-use Rattle.published.proofs.+branch+repeat+sequence+unroll+walk.{statement}
-use Rattle.published.proofs.+branch+repeat+sequence+unroll+walk.Tie.{close}
+use Rattle.published.proofs.+branch+iteration+iterations+repeat+sequence+unroll+walk.{statement}
+use Rattle.published.proofs.+branch+iteration+iterations+repeat+sequence+unroll+walk.Tie.{close}
 
--- ---- measures: the node number, and of a loop the iterations left
+-- ---- measures: the node number, and of a loop the larger of body's and test's with the iterations left
 
 abbrev μ-branch : Measures 2 branch-kinds.ps ℕ
 μ-branch κs a = 32768 * a .1 .1 .1 .0
 
+abbrev μ-iteration : Measures 2 iteration-kinds.ps ℕ
+μ-iteration κs a = 32768 * max (a .1 .1 .1 .0) (a .1 .1 .1 .1 .0) + 3
+
+abbrev μ-iterations : Measures 2 iterations-kinds.ps ℕ
+μ-iterations κs a = 32768 * a .1 .1 .1 .0
+
 abbrev μ-repeat : Measures 2 repeat-kinds.ps ℕ
-μ-repeat κs a = 32768 * a .1 .1 .1 .0
+μ-repeat κs a = 32768 * a .1 .1 .1 .0 + 1
 
 abbrev μ-sequence : Measures 2 sequence-kinds.ps ℕ
 μ-sequence κs a = 32768 * a .1 .1 .1 .0
 
 abbrev μ-unroll : Measures 2 unroll-kinds.ps ℕ
-μ-unroll κs a = 32768 * a .1 .1 .1 .0 + 2 + a .1 .1 .1 .1 .1 .0
+μ-unroll κs a = 32768 * max (a .1 .1 .1 .0) (a .1 .1 .1 .1 .0) + 4 + a .1 .1 .1 .1 .1 .1 .0
 
 abbrev μ-walk : Measures 2 walk-kinds.ps ℕ
-μ-walk κs a = 32768 * a .1 .1 .1 .0 + 1
+μ-walk κs a = 32768 * a .1 .1 .1 .0 + 2
 
 abbrev branch-at : ℕ → In 2 branch-kinds.ps
 branch-at t = and 2 branch-kinds.ps (is 2 branch-kinds.ps μ-branch t) branch.Pre
 
 abbrev branch-below : ℕ → In 2 branch-kinds.ps
 branch-below t = and 2 branch-kinds.ps (falls 2 branch-kinds.ps _<_ μ-branch t) branch.Pre
+
+abbrev iteration-at : ℕ → In 2 iteration-kinds.ps
+iteration-at t = and 2 iteration-kinds.ps (is 2 iteration-kinds.ps μ-iteration t) iteration.Pre
+
+abbrev iteration-below : ℕ → In 2 iteration-kinds.ps
+iteration-below t =
+    and 2 iteration-kinds.ps (falls 2 iteration-kinds.ps _<_ μ-iteration t) iteration.Pre
+
+abbrev iterations-at : ℕ → In 2 iterations-kinds.ps
+iterations-at t = and 2 iterations-kinds.ps (is 2 iterations-kinds.ps μ-iterations t) iterations.Pre
+
+abbrev iterations-below : ℕ → In 2 iterations-kinds.ps
+iterations-below t =
+    and 2 iterations-kinds.ps (falls 2 iterations-kinds.ps _<_ μ-iterations t) iterations.Pre
 
 abbrev repeat-at : ℕ → In 2 repeat-kinds.ps
 repeat-at t = and 2 repeat-kinds.ps (is 2 repeat-kinds.ps μ-repeat t) repeat.Pre
@@ -115,8 +141,11 @@ branch-claims t = (
   join-reads.Learnt,
 )
 
-abbrev repeat-claims : ℕ → repeat-lts.Claims
-repeat-claims t = (
+abbrev iteration-claims : ℕ → iteration-lts.Claims
+iteration-claims t = (walk-below t, walk.Post)
+
+abbrev iterations-claims : ℕ → iterations-lts.Claims
+iterations-claims t = (
   before-first-reads.Asked,
   before-first-reads.Learnt,
   unroll-below t,
@@ -125,13 +154,16 @@ repeat-claims t = (
   skipped-reads.Learnt,
 )
 
+abbrev repeat-claims : ℕ → repeat-lts.Claims
+repeat-claims t = (walk-below t, walk.Post, iterations-below t, iterations.Post)
+
 abbrev sequence-claims : ℕ → sequence-lts.Claims
 sequence-claims t = (word-reads.Asked, word-reads.Learnt, walk-below t, walk.Post)
 
 abbrev unroll-claims : ℕ → unroll-lts.Claims
 unroll-claims t = (
-  walk-below t,
-  walk.Post,
+  iteration-below t,
+  iteration.Post,
   joined-reads.Asked,
   joined-reads.Learnt,
   watched-reads.Asked,
@@ -260,48 +292,99 @@ branch-returns t c =
       costs = omega (arith, cost-any-done (busMeant (a .k .bus)) (a .image .now) (a .c .place) (a .c .count) (l .i) (omega arith) (bits (a .k .bus) (a .s)), l .inv .4);
     }
 
--- ---- repeat
+-- ---- iteration
 
-repeat-before-first-requires : (t : ℕ) → repeat-lts.Need-before-first-requires (repeat-claims t) (repeat-at t) repeat.Post
-repeat-before-first-requires t c κs = search needs
+iteration-walk-requires : (t : ℕ) → iteration-lts.Need-walk-requires (iteration-claims t) (iteration-at t) iteration.Post
+iteration-walk-requires t c κs =
+    let s = c .before in
+    let a = s .args in
+    (omega (arith, s .pre .0), body-ready (a .image .now) (a .k) (a .places .now) (a .body) (a .test) (a .s) (s .pre .1))
 
-repeat-unroll-requires : (t : ℕ) → repeat-lts.Need-unroll-requires (repeat-claims t) (repeat-at t) repeat.Post
-repeat-unroll-requires t c κs =
+iteration-walk-requires-2 : (t : ℕ) → iteration-lts.Need-walk-requires-2 (iteration-claims t) (iteration-at t) iteration.Post
+iteration-walk-requires-2 t c κs =
+    let s = c .before .before .before in
+    let a = s .args in
+    (omega (arith, s .pre .0), test-ready (a .image .now) (a .k) (a .places .now) (a .body) (a .test) (a .s) (s .pre .1) (c .before .walk .result) (c .before .walk .ensures))
+
+iteration-add-t11 : (t : ℕ) → iteration-lts.Need-add-t11 (iteration-claims t) (iteration-at t) iteration.Post
+iteration-add-t11 t c =
+    let s = c .before .before .before .before .before .before .before in
+    let a = s .args in
+    omega (arith, turn-small (a .image .now) (a .k) (a .places .now) (a .body) (a .test) (a .s) (s .pre .1) (c .before .before .before .before .before .walk .result) (c .before .before .before .before .before .walk .ensures) (c .before .before .before .walk2 .result) (c .before .before .before .walk2 .ensures))
+
+iteration-returns : (t : ℕ) → iteration-lts.Need-returns (iteration-claims t) (iteration-at t) iteration.Post
+iteration-returns t c =
+    let s = c .before .before .before .before .before .before .before in
+    let a = s .args in
+    turn-published (a .image .now) (a .k) (a .places .now) (a .body) (a .test) (a .s) (s .pre .1) (c .before .before .before .before .before .walk .result) (c .before .before .before .before .before .walk .ensures) (c .before .before .before .walk2 .result) (c .before .before .before .walk2 .ensures)
+
+-- ---- iterations
+
+iterations-before-first-requires : (t : ℕ) → iterations-lts.Need-before-first-requires (iterations-claims t) (iterations-at t) iterations.Post
+iterations-before-first-requires t c κs = search needs
+
+iterations-unroll-requires : (t : ℕ) → iterations-lts.Need-unroll-requires (iterations-claims t) (iterations-at t) iterations.Post
+iterations-unroll-requires t c κs =
     let s = c .before .before in
     let a = s .args in
-    (omega (arith, s .pre .0, s .pre .1 .below, s .pre .1 .many), begun-ready (a .image .now) (a .k) (a .places .now) (a .node) (a .l) (a .s) (s .pre .1) (c .before-first .result) (c .before-first .ensures (a .k .bus)))
+    (omega (arith, s .pre .0, s .pre .1 .below, s .pre .1 .below-test, s .pre .1 .many), begun-ready (a .image .now) (a .k) (a .places .now) (a .node) (a .l) (a .s) (s .pre .1) (c .before-first .result) (c .before-first .ensures (a .k .bus)))
 
-repeat-sub-skipped : (t : ℕ) → repeat-lts.Need-sub-skipped (repeat-claims t) (repeat-at t) repeat.Post
-repeat-sub-skipped t c =
+iterations-sub-skipped : (t : ℕ) → iterations-lts.Need-sub-skipped (iterations-claims t) (iterations-at t) iterations.Post
+iterations-sub-skipped t c =
     let s = c .before .before .before .before .before .before in
     let a = s .args in
     omega (arith, seen-few (a .image .now) (a .k) (a .places .now) (a .node) (a .l) (a .s) (s .pre .1) (c .before .before .before .before .before-first .result) (c .before .before .before .before .before-first .ensures (a .k .bus)) _ (c .before .before .before .unroll .ensures))
 
-repeat-skipped-requires : (t : ℕ) → repeat-lts.Need-skipped-requires (repeat-claims t) (repeat-at t) repeat.Post
-repeat-skipped-requires t c κs =
+iterations-skipped-requires : (t : ℕ) → iterations-lts.Need-skipped-requires (iterations-claims t) (iterations-at t) iterations.Post
+iterations-skipped-requires t c κs =
     let s = c .before .before .before .before .before .before in
     let a = s .args in
     let u = c .before .before .before .unroll .ensures in
     let ready = seen-ready (a .image .now) (a .k) (a .places .now) (a .node) (a .l) (a .s) (s .pre .1) (c .before .before .before .before .before-first .result) (c .before .before .before .before .before-first .ensures (a .k .bus)) _ u in
     (ready .many, ready .small, seen-cheap (a .image .now) (a .k) (a .places .now) (a .node) (a .l) (a .s) (s .pre .1) (c .before .before .before .before .before-first .result) (c .before .before .before .before .before-first .ensures (a .k .bus)) _ u)
 
-repeat-sub-unroll : (t : ℕ) → repeat-lts.Need-sub-unroll (repeat-claims t) (repeat-at t) repeat.Post
-repeat-sub-unroll t c =
+iterations-sub-unroll : (t : ℕ) → iterations-lts.Need-sub-unroll (iterations-claims t) (iterations-at t) iterations.Post
+iterations-sub-unroll t c =
     let s = c .before .before .before .before .before .before .before .before .before .before in
     let a = s .args in
     omega (arith, skip-few (a .image .now) (a .k) (a .places .now) (a .node) (a .l) (a .s) (s .pre .1) (c .before .before .before .before .before .before .before .before .before-first .result) (c .before .before .before .before .before .before .before .before .before-first .ensures (a .k .bus)) _ (c .before .before .before .before .before .before .before .unroll .ensures) _ (c .before .before .before .skipped .ensures))
 
-repeat-unroll-requires-2 : (t : ℕ) → repeat-lts.Need-unroll-requires-2 (repeat-claims t) (repeat-at t) repeat.Post
-repeat-unroll-requires-2 t c κs =
+iterations-unroll-requires-2 : (t : ℕ) → iterations-lts.Need-unroll-requires-2 (iterations-claims t) (iterations-at t) iterations.Post
+iterations-unroll-requires-2 t c κs =
     let s = c .before .before .before .before .before .before .before .before .before .before in
     let a = s .args in
-    (omega (arith, s .pre .0, s .pre .1 .below, s .pre .1 .many), rest-ready (a .image .now) (a .k) (a .places .now) (a .node) (a .l) (a .s) (s .pre .1) (c .before .before .before .before .before .before .before .before .before-first .result) (c .before .before .before .before .before .before .before .before .before-first .ensures (a .k .bus)) _ (c .before .before .before .before .before .before .before .unroll .ensures) _ (c .before .before .before .skipped .ensures))
+    (omega (arith, s .pre .0, s .pre .1 .below, s .pre .1 .below-test, s .pre .1 .many), rest-ready (a .image .now) (a .k) (a .places .now) (a .node) (a .l) (a .s) (s .pre .1) (c .before .before .before .before .before .before .before .before .before-first .result) (c .before .before .before .before .before .before .before .before .before-first .ensures (a .k .bus)) _ (c .before .before .before .before .before .before .before .unroll .ensures) _ (c .before .before .before .skipped .ensures))
 
-repeat-returns : (t : ℕ) → repeat-lts.Need-returns (repeat-claims t) (repeat-at t) repeat.Post
-repeat-returns t c =
+iterations-returns : (t : ℕ) → iterations-lts.Need-returns (iterations-claims t) (iterations-at t) iterations.Post
+iterations-returns t c =
     let s = c .before .before .before .before .before .before .before .before .before .before .before .before .before in
     let a = s .args in
     repeat-published (a .image .now) (a .k) (a .places .now) (a .node) (a .l) (a .s) (s .pre .1) (c .before .before .before .before .before .before .before .before .before .before .before .before-first .result) (c .before .before .before .before .before .before .before .before .before .before .before .before-first .ensures (a .k .bus)) _ (c .before .before .before .before .before .before .before .before .before .before .unroll .ensures) _ (c .before .before .before .before .before .before .skipped .ensures) (c .before .before .unroll2 .result) (c .before .before .unroll2 .ensures)
+
+-- ---- repeat
+
+repeat-walk-requires : (t : ℕ) → repeat-lts.Need-walk-requires (repeat-claims t) (repeat-at t) repeat.Post
+repeat-walk-requires t c κs =
+    let s = c .before in
+    let a = s .args in
+    (omega (arith, s .pre .0, s .pre .1 .below-test), first-ready (a .image .now) (a .k) (a .places .now) (a .node) (a .l) (a .s) (s .pre .1))
+
+repeat-iterations-requires : (t : ℕ) → repeat-lts.Need-iterations-requires (repeat-claims t) (repeat-at t) repeat.Post
+repeat-iterations-requires t c κs =
+    let s = c .before .before .before in
+    let a = s .args in
+    (omega (arith, s .pre .0), turns-ready (a .image .now) (a .k) (a .places .now) (a .node) (a .l) (a .s) (s .pre .1) (c .before .walk .result) (c .before .walk .ensures))
+
+repeat-add-t11 : (t : ℕ) → repeat-lts.Need-add-t11 (repeat-claims t) (repeat-at t) repeat.Post
+repeat-add-t11 t c =
+    let s = c .before .before .before .before .before .before .before in
+    let a = s .args in
+    omega (arith, turns-small (a .image .now) (a .k) (a .places .now) (a .node) (a .l) (a .s) (s .pre .1) (c .before .before .before .before .before .walk .result) (c .before .before .before .before .before .walk .ensures) (c .before .before .before .iterations .result) (c .before .before .before .iterations .ensures))
+
+repeat-returns : (t : ℕ) → repeat-lts.Need-returns (repeat-claims t) (repeat-at t) repeat.Post
+repeat-returns t c =
+    let a = c .before .before .before .before .before .before .before .args in
+    as-loop (a .k .bus) _ (a .s) _ _ _ _ (c .before .before .before .before .before .walk .result) (c .before .before .before .iterations .result) refl (c .before .before .before .before .before .walk .ensures) (c .before .before .before .iterations .ensures)
 
 -- ---- sequence
 
@@ -401,26 +484,26 @@ sequence-returns t c =
 -- ---- unroll
 
 unroll-returns : (t : ℕ) → unroll-lts.Need-returns (unroll-claims t) (unroll-at t) unroll.Post
-unroll-returns t c = let s = c .before .before .before in let a = s .args in none-unrolls (a .image .now) (a .k) (a .places .now) (a .body) (a .left) (a .t) (s .pre .1) (a .least) (λ e. c .if1 .taken)
+unroll-returns t c = let s = c .before .before .before in let a = s .args in none-unrolls (a .image .now) (a .k) (a .places .now) (a .body) (a .test) (a .left) (a .t) (s .pre .1) (a .least) (λ e. c .if1 .taken)
 
 unroll-returns-2 : (t : ℕ) → unroll-lts.Need-returns-2 (unroll-claims t) (unroll-at t) unroll.Post
-unroll-returns-2 t c = let s = c .before .before .before .before .before in let a = s .args in none-unrolls (a .image .now) (a .k) (a .places .now) (a .body) (a .left) (a .t) (s .pre .1) (a .least) (λ e. absurd (omega (arith, e, c .if2 .taken)))
+unroll-returns-2 t c = let s = c .before .before .before .before .before in let a = s .args in none-unrolls (a .image .now) (a .k) (a .places .now) (a .body) (a .test) (a .left) (a .t) (s .pre .1) (a .least) (λ e. absurd (omega (arith, e, c .if2 .taken)))
 
-unroll-walk-requires : (t : ℕ) → unroll-lts.Need-walk-requires (unroll-claims t) (unroll-at t) unroll.Post
-unroll-walk-requires t c κs = let s = c .before .before .before .before .before .before .before .before .before in let a = s .args in (omega (arith, s .pre .0), one-ready (a .image .now) (a .k) (a .places .now) (a .body) (a .left) (a .t) (s .pre .1) (c .before .before .before .if3 .taken))
+unroll-iteration-requires : (t : ℕ) → unroll-lts.Need-iteration-requires (unroll-claims t) (unroll-at t) unroll.Post
+unroll-iteration-requires t c κs = let s = c .before .before .before .before .before .before .before .before .before in let a = s .args in (omega (arith, s .pre .0), one-ready (a .image .now) (a .k) (a .places .now) (a .body) (a .test) (a .left) (a .t) (s .pre .1) (c .before .before .before .if3 .taken))
 
 unroll-joined-requires : (t : ℕ) → unroll-lts.Need-joined-requires (unroll-claims t) (unroll-at t) unroll.Post
 unroll-joined-requires t c κs =
     let s = c .before .before .before .before .before .before .before .before .before .before in
     let a = s .args in
-    let small = outcome-small (a .image .now) (a .k) (a .places .now) (s .pre .1 .walkable) (a .body) (s .pre .1 .low) (a .t .pass .cur) (c .walk .result) (c .walk .ensures) in
-    (omega (arith, s .pre .1 .many), omega (arith, small, c .before .before .before .before .if3 .taken, rw (c .before .before .before .before .if3 .taken) at (s .pre .1 .few)))
+    let cheap = one-cheap (a .image .now) (a .k) (a .places .now) (a .body) (a .test) (a .left) (a .t) (s .pre .1) (c .before .before .before .before .if3 .taken) (c .iteration .result) (c .iteration .ensures) in
+    (omega (arith, s .pre .1 .many), cheap)
 
 unroll-watched-requires : (t : ℕ) → unroll-lts.Need-watched-requires (unroll-claims t) (unroll-at t) unroll.Post
 unroll-watched-requires t c κs =
     let s = c .before .before .before .before .before .before .before .before .before .before .before in
     let a = s .args in
-    let asks = one-asks (a .image .now) (a .k) (a .places .now) (a .body) (a .left) (a .t) (s .pre .1) (a .least) (c .before .before .before .before .before .if3 .taken) (c .before .walk .result) (c .joined .result) (c .before .walk .ensures) (c .joined .ensures (a .k .bus)) in
+    let asks = one-asks (a .image .now) (a .k) (a .places .now) (a .body) (a .test) (a .left) (a .t) (s .pre .1) (a .least) (c .before .before .before .before .before .if3 .taken) (c .before .iteration .result) (c .joined .result) (c .before .iteration .ensures) (c .joined .ensures (a .k .bus)) in
     (asks .0, s .pre .1 .small, asks .1, asks .2)
 
 unroll-returns-3 : (t : ℕ) → unroll-lts.Need-returns-3 (unroll-claims t) (unroll-at t) unroll.Post
@@ -428,11 +511,11 @@ unroll-returns-3 t c =
     let s = c .before .before .before .before .before .before .before .before .before .before .before .before in
     let a = s .args in
     let none-yet : a .t .watch .cycle ≡ 0 = omega (arith, c .before .before .before .before .before .before .before .if2 .left) in
-    one-unrolls (a .image .now) (a .k) (a .places .now) (a .body) (a .left) (a .t) (s .pre .1) (a .least) (c .before .before .before .before .before .before .if3 .taken) (c .before .before .walk .result) (c .before .joined .result) (c .before .before .walk .ensures) (c .before .joined .ensures (a .k .bus))
+    one-unrolls (a .image .now) (a .k) (a .places .now) (a .body) (a .test) (a .left) (a .t) (s .pre .1) (a .least) (c .before .before .before .before .before .before .if3 .taken) (c .before .before .iteration .result) (c .before .joined .result) (c .before .before .iteration .ensures) (c .before .joined .ensures (a .k .bus))
     none-yet (c .watched .result) (c .watched .ensures)
 
 unroll-unroll-requires : (t : ℕ) → unroll-lts.Need-unroll-requires (unroll-claims t) (unroll-at t) unroll.Post
-unroll-unroll-requires t c κs = let s = c .before .before .before .before .before .before in let a = s .args in (omega (arith, s .pre .0, c .before .before .before .if1 .left, c .if3 .left), half-ready (a .image .now) (a .k) (a .places .now) (a .body) (a .left) (a .t) (s .pre .1) (a .left / 2) (omega arith))
+unroll-unroll-requires t c κs = let s = c .before .before .before .before .before .before in let a = s .args in (omega (arith, s .pre .0, c .before .before .before .if1 .left, c .if3 .left), half-ready (a .image .now) (a .k) (a .places .now) (a .body) (a .test) (a .left) (a .t) (s .pre .1) (a .left / 2) (omega arith))
 
 unroll-sub-unroll : (t : ℕ) → unroll-lts.Need-sub-unroll (unroll-claims t) (unroll-at t) unroll.Post
 unroll-sub-unroll t c = omega arith
@@ -441,13 +524,13 @@ unroll-unroll-requires-2 : (t : ℕ) → unroll-lts.Need-unroll-requires-2 (unro
 unroll-unroll-requires-2 t c κs =
     let s = c .before .before .before .before .before .before .before in
     let a = s .args in
-    (omega (arith, s .pre .0, c .before .before .before .before .if1 .left, c .before .if3 .left), other-ready (a .image .now) (a .k) (a .places .now) (a .body) (a .left) (a .t) (s .pre .1) (a .least) (a .left / 2) (omega arith) (c .unroll .result) (c .unroll .ensures))
+    (omega (arith, s .pre .0, c .before .before .before .before .if1 .left, c .before .if3 .left), other-ready (a .image .now) (a .k) (a .places .now) (a .body) (a .test) (a .left) (a .t) (s .pre .1) (a .least) (a .left / 2) (omega arith) (c .unroll .result) (c .unroll .ensures))
 
 unroll-returns-4 : (t : ℕ) → unroll-lts.Need-returns-4 (unroll-claims t) (unroll-at t) unroll.Post
 unroll-returns-4 t c =
     let s = c .before .before .before .before .before .before .before .before in
     let a = s .args in
-    both-unroll (a .k .bus) (treeAt (a .image .now) (a .body)) (a .least) (a .left) (a .left / 2) (omega arith) (a .t) (c .before .unroll .result) (c .unroll2 .result)
+    both-unroll (a .k .bus) (turnTrees (a .image .now) (a .body) (a .test)) (a .least) (a .left) (a .left / 2) (omega arith) (a .t) (c .before .unroll .result) (c .unroll2 .result)
     (c .before .unroll .ensures) (c .unroll2 .ensures)
 
 -- ---- walk
@@ -575,9 +658,9 @@ walk-returns-6 t c =
     let x = c .before .before .n6 .given .0 .0 in
     repeat-done (a .image .now) (a .k) (a .places .now) (a .node) (a .s) (s .pre .1) x e (c .repeat .result) (c .repeat .ensures)
 
-pub +branch+repeat+sequence+unroll+walk-spec : {M : Type 1} → statement M
-+branch+repeat+sequence+unroll+walk-spec =
-    close μ-branch μ-repeat μ-sequence μ-unroll μ-walk (λ t. branch-lts.spec (branch-claims t)
+pub +branch+iteration+iterations+repeat+sequence+unroll+walk-spec : {M : Type 1} → statement M
++branch+iteration+iterations+repeat+sequence+unroll+walk-spec =
+    close μ-branch μ-iteration μ-iterations μ-repeat μ-sequence μ-unroll μ-walk (λ t. branch-lts.spec (branch-claims t)
     (branch-at t)
     branch.Post
     branch-Inv-loop
@@ -594,15 +677,29 @@ pub +branch+repeat+sequence+unroll+walk-spec : {M : Type 1} → statement M
     (branch-loop-less t)
     (branch-loop-again t)
     (branch-returns t))
+    (λ t. iteration-lts.spec (iteration-claims t)
+    (iteration-at t)
+    iteration.Post
+    (iteration-walk-requires t)
+    (iteration-walk-requires-2 t)
+    (iteration-add-t11 t)
+    (iteration-returns t))
+    (λ t. iterations-lts.spec (iterations-claims t)
+    (iterations-at t)
+    iterations.Post
+    (iterations-before-first-requires t)
+    (iterations-unroll-requires t)
+    (iterations-sub-skipped t)
+    (iterations-skipped-requires t)
+    (iterations-sub-unroll t)
+    (iterations-unroll-requires-2 t)
+    (iterations-returns t))
     (λ t. repeat-lts.spec (repeat-claims t)
     (repeat-at t)
     repeat.Post
-    (repeat-before-first-requires t)
-    (repeat-unroll-requires t)
-    (repeat-sub-skipped t)
-    (repeat-skipped-requires t)
-    (repeat-sub-unroll t)
-    (repeat-unroll-requires-2 t)
+    (repeat-walk-requires t)
+    (repeat-iterations-requires t)
+    (repeat-add-t11 t)
     (repeat-returns t))
     (λ t. sequence-lts.spec
     (sequence-claims t)
@@ -625,7 +722,7 @@ pub +branch+repeat+sequence+unroll+walk-spec : {M : Type 1} → statement M
     unroll.Post
     (unroll-returns t)
     (unroll-returns-2 t)
-    (unroll-walk-requires t)
+    (unroll-iteration-requires t)
     (unroll-joined-requires t)
     (unroll-watched-requires t)
     (unroll-returns-3 t)

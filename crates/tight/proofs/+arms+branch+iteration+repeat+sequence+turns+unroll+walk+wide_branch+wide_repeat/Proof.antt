@@ -8,46 +8,50 @@ use native.Mathlib.Nat.{add-zero, sub-zero}
 use Rattle.runs.specs.Nodes.{visitsAll}
 use Rattle.runs.specs.Figures.{Time, longer, later}
 use Rattle.runs.proofs.Joins.{longer-joins}
-use Rattle.nodes.specs.Nodes.{treeAt, childTrees}
+use Rattle.nodes.specs.Nodes.{childTrees, turnTrees}
 use Rattle.image.proofs.Walks.{all-done, any-done}
 use Rattle.tight.specs.Steps.{sizeOf, table, afterAll, afterAny, Roomy}
 use Rattle.iterations.proofs.Exits.{nothing}
 use Rattle.tight.proofs.Tables.{begun-at, turned-at}
+use Rattle.tight.proofs.Parts.{as-loop}
 use Rattle.tight.proofs.Children.{child-low, child-ready, copied-ready, copied-step, rest-room as child-rest-room, rest-same-room, next-in-order, next-arm}
-use Rattle.tight.proofs.Descents.{sized, wide-size, narrow-size, in-image, in-places, plain-ready, plain-done, block-ready, block-done, once-ready, once-done, sequence-ready, sequence-done, branch-ready, branch-done, repeat-ready, repeat-done}
-use Rattle.tight.proofs.Loops.{one-ready, half-ready, other-ready, none-unrolls, one-unrolls, both-unroll, begun-ready, seen-few, seen-ready, seen-fits, seen-long, skip-few, rest-ready, ends-long, repeat-steps}
+use Rattle.tight.proofs.Descents.{sized, wide-size, narrow-size, in-image, in-places, plain-ready, plain-done, block-ready, block-done, once-ready, once-done, sequence-ready, sequence-done, branch-ready, branch-done, repeat-ready, repeat-done, first-ready, turns-ready}
+use Rattle.tight.proofs.Loops.{one-ready, half-ready, other-ready, none-unrolls, one-unrolls, both-unroll, body-ready, test-ready, turn-steps, begun-ready, seen-few, seen-ready, seen-fits, seen-long, skip-few, rest-ready, ends-long, repeat-steps}
 use native.Mathlib.Omega.{arith}
 use borrow.Author.Needs.{needs}
-use Prim.Native.Nat.{ℕ, _+_, _-_, _*_, _/_, _≤_, _<_}
+use Prim.Native.Nat.{ℕ, _+_, _-_, _*_, _/_, _≤_, _<_, max}
 use borrow.Fn.Kinds.{In}
 use borrow.Fn.PlainCycle.{Measures, is, falls, and}
 use Rattle.tight.proofs.arms.Reads as arms
 use Rattle.tight.proofs.arms.Kinds as arms-kinds
-use Rattle.tight.proofs.+arms+branch+repeat+sequence+turns+unroll+walk+wide_branch+wide_repeat.Lts-arms as arms-lts
+use Rattle.tight.proofs.+arms+branch+iteration+repeat+sequence+turns+unroll+walk+wide_branch+wide_repeat.Lts-arms as arms-lts
 use Rattle.tight.proofs.branch.Reads as branch
 use Rattle.tight.proofs.branch.Kinds as branch-kinds
-use Rattle.tight.proofs.+arms+branch+repeat+sequence+turns+unroll+walk+wide_branch+wide_repeat.Lts-branch as branch-lts
+use Rattle.tight.proofs.+arms+branch+iteration+repeat+sequence+turns+unroll+walk+wide_branch+wide_repeat.Lts-branch as branch-lts
+use Rattle.tight.proofs.iteration.Reads as iteration
+use Rattle.tight.proofs.iteration.Kinds as iteration-kinds
+use Rattle.tight.proofs.+arms+branch+iteration+repeat+sequence+turns+unroll+walk+wide_branch+wide_repeat.Lts-iteration as iteration-lts
 use Rattle.tight.proofs.repeat.Reads as repeat
 use Rattle.tight.proofs.repeat.Kinds as repeat-kinds
-use Rattle.tight.proofs.+arms+branch+repeat+sequence+turns+unroll+walk+wide_branch+wide_repeat.Lts-repeat as repeat-lts
+use Rattle.tight.proofs.+arms+branch+iteration+repeat+sequence+turns+unroll+walk+wide_branch+wide_repeat.Lts-repeat as repeat-lts
 use Rattle.tight.proofs.sequence.Reads as sequence
 use Rattle.tight.proofs.sequence.Kinds as sequence-kinds
-use Rattle.tight.proofs.+arms+branch+repeat+sequence+turns+unroll+walk+wide_branch+wide_repeat.Lts-sequence as sequence-lts
+use Rattle.tight.proofs.+arms+branch+iteration+repeat+sequence+turns+unroll+walk+wide_branch+wide_repeat.Lts-sequence as sequence-lts
 use Rattle.tight.proofs.turns.Reads as turns
 use Rattle.tight.proofs.turns.Kinds as turns-kinds
-use Rattle.tight.proofs.+arms+branch+repeat+sequence+turns+unroll+walk+wide_branch+wide_repeat.Lts-turns as turns-lts
+use Rattle.tight.proofs.+arms+branch+iteration+repeat+sequence+turns+unroll+walk+wide_branch+wide_repeat.Lts-turns as turns-lts
 use Rattle.tight.proofs.unroll.Reads as unroll
 use Rattle.tight.proofs.unroll.Kinds as unroll-kinds
-use Rattle.tight.proofs.+arms+branch+repeat+sequence+turns+unroll+walk+wide_branch+wide_repeat.Lts-unroll as unroll-lts
+use Rattle.tight.proofs.+arms+branch+iteration+repeat+sequence+turns+unroll+walk+wide_branch+wide_repeat.Lts-unroll as unroll-lts
 use Rattle.tight.proofs.walk.Reads as walk
 use Rattle.tight.proofs.walk.Kinds as walk-kinds
-use Rattle.tight.proofs.+arms+branch+repeat+sequence+turns+unroll+walk+wide_branch+wide_repeat.Lts-walk as walk-lts
+use Rattle.tight.proofs.+arms+branch+iteration+repeat+sequence+turns+unroll+walk+wide_branch+wide_repeat.Lts-walk as walk-lts
 use Rattle.tight.proofs.wide_branch.Reads as wide-branch
 use Rattle.tight.proofs.wide_branch.Kinds as wide-branch-kinds
-use Rattle.tight.proofs.+arms+branch+repeat+sequence+turns+unroll+walk+wide_branch+wide_repeat.Lts-wide_branch as wide-branch-lts
+use Rattle.tight.proofs.+arms+branch+iteration+repeat+sequence+turns+unroll+walk+wide_branch+wide_repeat.Lts-wide_branch as wide-branch-lts
 use Rattle.tight.proofs.wide_repeat.Reads as wide-repeat
 use Rattle.tight.proofs.wide_repeat.Kinds as wide-repeat-kinds
-use Rattle.tight.proofs.+arms+branch+repeat+sequence+turns+unroll+walk+wide_branch+wide_repeat.Lts-wide_repeat as wide-repeat-lts
+use Rattle.tight.proofs.+arms+branch+iteration+repeat+sequence+turns+unroll+walk+wide_branch+wide_repeat.Lts-wide_repeat as wide-repeat-lts
 use Rattle.nodes.proofs.node_at.Reads as node-at-reads
 use Rattle.bytes.proofs.word.Reads as word-reads
 use Rattle.iterations.proofs.before_first.Reads as before-first-reads
@@ -61,20 +65,23 @@ use Rattle.iterations.proofs.skipped.Reads as skipped-reads
 use Rattle.iterations.proofs.watched.Reads as watched-reads
 use Rattle.times.proofs.copy.Reads as copy-reads
 use Rattle.times.proofs.join.Reads as join-reads
-use Rattle.tight.proofs.+arms+branch+repeat+sequence+turns+unroll+walk+wide_branch+wide_repeat.{
+use Rattle.tight.proofs.+arms+branch+iteration+repeat+sequence+turns+unroll+walk+wide_branch+wide_repeat.{
   statement,
 }
-use Rattle.tight.proofs.+arms+branch+repeat+sequence+turns+unroll+walk+wide_branch+wide_repeat.Tie.{
+use Rattle.tight.proofs.+arms+branch+iteration+repeat+sequence+turns+unroll+walk+wide_branch+wide_repeat.Tie.{
   close,
 }
 
--- ---- measures: the node number, and of a loop the iterations left
+-- ---- measures: the node number, and of a loop the larger of body's and test's with the iterations left
 
 abbrev μ-arms : Measures 5 arms-kinds.ps ℕ
 μ-arms κs a = 32768 * a .1 .1 .1 .0
 
 abbrev μ-branch : Measures 3 branch-kinds.ps ℕ
 μ-branch κs a = 32768 * a .1 .1 .1 .0 + 2
+
+abbrev μ-iteration : Measures 3 iteration-kinds.ps ℕ
+μ-iteration κs a = 32768 * max (a .1 .1 .1 .0) (a .1 .1 .1 .1 .0) + 4
 
 abbrev μ-repeat : Measures 3 repeat-kinds.ps ℕ
 μ-repeat κs a = 32768 * a .1 .1 .1 .0 + 2
@@ -86,7 +93,7 @@ abbrev μ-turns : Measures 5 turns-kinds.ps ℕ
 μ-turns κs a = 32768 * a .1 .1 .1 .0
 
 abbrev μ-unroll : Measures 5 unroll-kinds.ps ℕ
-μ-unroll κs a = 32768 * a .1 .1 .1 .0 + 4 + a .1 .1 .1 .1 .1 .0
+μ-unroll κs a = 32768 * max (a .1 .1 .1 .0) (a .1 .1 .1 .1 .0) + 5 + a .1 .1 .1 .1 .1 .1 .0
 
 abbrev μ-walk : Measures 3 walk-kinds.ps ℕ
 μ-walk κs a = 32768 * a .1 .1 .1 .0 + 3
@@ -108,6 +115,13 @@ branch-at t = and 3 branch-kinds.ps (is 3 branch-kinds.ps μ-branch t) branch.Pr
 
 abbrev branch-below : ℕ → In 3 branch-kinds.ps
 branch-below t = and 3 branch-kinds.ps (falls 3 branch-kinds.ps _<_ μ-branch t) branch.Pre
+
+abbrev iteration-at : ℕ → In 3 iteration-kinds.ps
+iteration-at t = and 3 iteration-kinds.ps (is 3 iteration-kinds.ps μ-iteration t) iteration.Pre
+
+abbrev iteration-below : ℕ → In 3 iteration-kinds.ps
+iteration-below t =
+    and 3 iteration-kinds.ps (falls 3 iteration-kinds.ps _<_ μ-iteration t) iteration.Pre
 
 abbrev repeat-at : ℕ → In 3 repeat-kinds.ps
 repeat-at t = and 3 repeat-kinds.ps (is 3 repeat-kinds.ps μ-repeat t) repeat.Pre
@@ -179,8 +193,16 @@ branch-claims t = (
   arms.Post,
 )
 
+abbrev iteration-claims : ℕ → iteration-lts.Claims
+iteration-claims t = (
+  walk-below t,
+  walk.Post,
+)
+
 abbrev repeat-claims : ℕ → repeat-lts.Claims
 repeat-claims t = (
+  walk-below t,
+  walk.Post,
   wide-repeat-below t,
   wide-repeat.Post,
   turns-below t,
@@ -213,8 +235,8 @@ turns-claims t = (
 
 abbrev unroll-claims : ℕ → unroll-lts.Claims
 unroll-claims t = (
-  walk-below t,
-  walk.Post,
+  iteration-below t,
+  iteration.Post,
   size-reads.Asked,
   size-reads.Learnt,
   joined-reads.Asked,
@@ -393,16 +415,47 @@ branch-same-length-2 t c = c .before .before .before .before .arms .ensures .0
 branch-returns-2 : (t : ℕ) → branch-lts.Need-returns-2 (branch-claims t) (branch-at t) branch.Post
 branch-returns-2 t c = c .before .before .before .before .arms .ensures
 
+-- ---- iteration
+
+iteration-walk-requires : (t : ℕ) → iteration-lts.Need-walk-requires (iteration-claims t) (iteration-at t) iteration.Post
+iteration-walk-requires t c κs =
+    let a = c .before .before .before .args in
+    let p = c .before .before .before .pre in
+    (omega (arith, p .0), body-ready (a .image .now) (a .k) (a .places .now) (a .body) (a .test) (a .cur .now) (p .1))
+
+iteration-walk-requires-2 : (t : ℕ) → iteration-lts.Need-walk-requires-2 (iteration-claims t) (iteration-at t) iteration.Post
+iteration-walk-requires-2 t c κs =
+    let a = c .before .before .before .before .before .before .before .args in
+    let p = c .before .before .before .before .before .before .before .pre in
+    (omega (arith, p .0), test-ready (a .image .now) (a .k) (a .places .now) (a .body) (a .test) (a .cur .now) (p .1) _ (c .before .before .before .walk .ensures))
+
+iteration-same-length : (t : ℕ) → iteration-lts.Need-same-length (iteration-claims t) (iteration-at t) iteration.Post
+iteration-same-length t c = c .before .before .walk2 .ensures .size ∙ c .before .before .before .before .before .before .walk .ensures .size
+
+iteration-returns : (t : ℕ) → iteration-lts.Need-returns (iteration-claims t) (iteration-at t) iteration.Post
+iteration-returns t c =
+    let a = c .before .before .before .before .before .before .before .before .before .before .args in
+    turn-steps (a .image .now) (a .k) (a .places .now) (a .body) (a .test) (a .cur .now) (c .before .before .before .before .before .before .before .before .before .before .pre .1) _ _ (c .before .before .before .before .before .before .walk .ensures) (c .before .before .walk2 .ensures)
+
 -- ---- repeat
 
+repeat-walk-requires : (t : ℕ) → repeat-lts.Need-walk-requires (repeat-claims t) (repeat-at t) repeat.Post
+repeat-walk-requires t c κs =
+    let a = c .before .before .before .args in
+    let p = c .before .before .before .pre in
+    (omega (arith, p .0, p .1 .below-test), first-ready (a .image .now) (a .k) (a .places .now) (a .node) (a .l) (a .t .now) (p .1))
+
 repeat-wide-repeat-requires : (t : ℕ) → repeat-lts.Need-wide-repeat-requires (repeat-claims t) (repeat-at t) repeat.Post
-repeat-wide-repeat-requires t c κs = (omega (arith, c .before .before .before .before .before .pre .0), c .before .before .before .before .before .pre .1)
+repeat-wide-repeat-requires t c κs =
+    let a = c .before .before .before .before .before .before .before .before .before .args in
+    let p = c .before .before .before .before .before .before .before .before .before .pre in
+    (omega (arith, p .0), turns-ready (a .image .now) (a .k) (a .places .now) (a .node) (a .l) (a .t .now) (p .1) _ (c .before .before .before .before .before .walk .ensures))
 
 repeat-same-length : (t : ℕ) → repeat-lts.Need-same-length (repeat-claims t) (repeat-at t) repeat.Post
-repeat-same-length t c = c .before .before .wide-repeat .ensures .size
+repeat-same-length t c = c .before .before .wide-repeat .ensures .size ∙ c .before .before .before .before .before .before .before .before .walk .ensures .size
 
 repeat-returns : (t : ℕ) → repeat-lts.Need-returns (repeat-claims t) (repeat-at t) repeat.Post
-repeat-returns t c = c .before .before .wide-repeat .ensures
+repeat-returns t c = as-loop _ _ _ _ _ _ _ _ _ refl (c .before .before .before .before .before .before .before .before .walk .ensures) (c .before .before .wide-repeat .ensures)
 
 repeat-slice-aggregate-turns : (t : ℕ) → repeat-lts.Need-slice-aggregate-turns (repeat-claims t) (repeat-at t) repeat.Post
 repeat-slice-aggregate-turns t c = search needs
@@ -412,16 +465,17 @@ repeat-slice-aggregate-turns-2 t c = search needs
 
 repeat-turns-requires : (t : ℕ) → repeat-lts.Need-turns-requires (repeat-claims t) (repeat-at t) repeat.Post
 repeat-turns-requires t c κs =
-    let a = c .before .before .before .before .before .before .before .args in
-    let p = c .before .before .before .before .before .before .before .pre .1 in
-    let small : sizeOf (a .k) ≤ 256 = narrow-size (a .image .now) (a .k) (a .places .now) (p .walkable) (omega (arith, c .before .before .before .if1 .left)) in
-    (omega (arith, c .before .before .before .before .before .before .before .pre .0), (p, nothing (sizeOf (a .k)) 256 small, nothing (sizeOf (a .k)) 256 small .size))
+    let a = c .before .before .before .before .before .before .before .before .before .before .before .args in
+    let p = c .before .before .before .before .before .before .before .before .before .before .before .pre in
+    let small : sizeOf (a .k) ≤ 256 = narrow-size (a .image .now) (a .k) (a .places .now) (p .1 .walkable) (omega (arith, c .before .before .before .if1 .left)) in
+    let ready = turns-ready (a .image .now) (a .k) (a .places .now) (a .node) (a .l) (a .t .now) (p .1) _ (c .before .before .before .before .before .before .before .walk .ensures) in
+    (omega (arith, p .0), (ready, nothing (sizeOf (a .k)) 256 small, nothing (sizeOf (a .k)) 256 small .size))
 
 repeat-same-length-2 : (t : ℕ) → repeat-lts.Need-same-length-2 (repeat-claims t) (repeat-at t) repeat.Post
-repeat-same-length-2 t c = c .before .before .before .before .turns .ensures .size
+repeat-same-length-2 t c = c .before .before .before .before .turns .ensures .size ∙ c .before .before .before .before .before .before .before .before .before .before .before .before .walk .ensures .size
 
 repeat-returns-2 : (t : ℕ) → repeat-lts.Need-returns-2 (repeat-claims t) (repeat-at t) repeat.Post
-repeat-returns-2 t c = c .before .before .before .before .turns .ensures
+repeat-returns-2 t c = as-loop _ _ _ _ _ _ _ _ _ refl (c .before .before .before .before .before .before .before .before .before .before .before .before .walk .ensures) (c .before .before .before .before .turns .ensures)
 
 -- ---- sequence
 
@@ -511,7 +565,7 @@ turns-unroll-requires : (t : ℕ) → turns-lts.Need-unroll-requires (turns-clai
 turns-unroll-requires t c κs =
     let a = c .before .before .before .before .before .before .before .before .before .before .before .before .before .before .before .before .before .before .args in
     let p = c .before .before .before .before .before .before .before .before .before .before .before .before .before .before .before .before .before .before .pre .1 in
-    (omega (arith, c .before .before .before .before .before .before .before .before .before .before .before .before .before .before .before .before .before .before .pre .0, p .0 .below, p .0 .few), begun-ready (a .image .now) (a .k) (a .places .now) (a .node) (a .l) (a .t .now) (p .0) (a .out .now) _ (a .old .now) _ (c .before .before .before .before .before .kept .result) (p .1 .size) (c .before .before .before .before .before .before .before .before .before .before .before-first .ensures .0) (p .2) (c .before .before .before .before .before .before .before .before .before .before .before .before .before .size .result) (c .before .before .before .before .before .before .before .before .before .before .before .before .before .size .ensures) (c .before .before .before .before .before .kept .ensures))
+    (omega (arith, c .before .before .before .before .before .before .before .before .before .before .before .before .before .before .before .before .before .before .pre .0, p .0 .below, p .0 .below-test, p .0 .few), begun-ready (a .image .now) (a .k) (a .places .now) (a .node) (a .l) (a .t .now) (p .0) (a .out .now) _ (a .old .now) _ (c .before .before .before .before .before .kept .result) (p .1 .size) (c .before .before .before .before .before .before .before .before .before .before .before-first .ensures .0) (p .2) (c .before .before .before .before .before .before .before .before .before .before .before .before .before .size .result) (c .before .before .before .before .before .before .before .before .before .before .before .before .before .size .ensures) (c .before .before .before .before .before .kept .ensures))
 
 turns-sub-left : (t : ℕ) → turns-lts.Need-sub-left (turns-claims t) (turns-at t) turns.Post
 turns-sub-left t c =
@@ -536,7 +590,7 @@ turns-unroll-requires-2 : (t : ℕ) → turns-lts.Need-unroll-requires-2 (turns-
 turns-unroll-requires-2 t c κs =
     let a = c .before .before .before .before .before .before .before .before .before .before .before .before .before .before .before .before .before .before .before .before .before .before .before .before .before .before .before .before .before .before .before .before .before .before .before .before .args in
     let p = c .before .before .before .before .before .before .before .before .before .before .before .before .before .before .before .before .before .before .before .before .before .before .before .before .before .before .before .before .before .before .before .before .before .before .before .before .pre .1 in
-    (omega (arith, c .before .before .before .before .before .before .before .before .before .before .before .before .before .before .before .before .before .before .before .before .before .before .before .before .before .before .before .before .before .before .before .before .before .before .before .before .pre .0, p .0 .below, p .0 .few), rest-ready (a .image .now) (a .k) (a .places .now) (a .node) (a .l) (a .t .now) (p .0) (a .out .now) _ (a .old .now) _ (c .before .before .before .before .before .before .before .before .before .before .before .before .before .before .before .before .before .before .before .before .before .before .before .kept .result) (p .1 .size) (c .before .before .before .before .before .before .before .before .before .before .before .before .before .before .before .before .before .before .before .before .before .before .before .before .before .before .before .before .before-first .ensures .0) (p .2) (c .before .before .before .before .before .before .before .before .before .before .before .before .before .before .before .before .before .before .before .before .before .before .before .before .before .before .before .before .before .before .before .size .result) (c .before .before .before .before .before .before .before .before .before .before .before .before .before .before .before .before .before .before .before .before .before .before .before .before .before .before .before .before .before .before .before .size .ensures) (c .before .before .before .before .before .before .before .before .before .before .before .before .before .before .before .before .before .before .before .before .before .before .before .kept .ensures) _ _ _ _ (c .before .before .before .before .before .before .before .before .before .before .before .before .before .before .before .before .before .unroll .ensures) _ _ (c .before .before .before .before .before .before .before .skipped .ensures))
+    (omega (arith, c .before .before .before .before .before .before .before .before .before .before .before .before .before .before .before .before .before .before .before .before .before .before .before .before .before .before .before .before .before .before .before .before .before .before .before .before .pre .0, p .0 .below, p .0 .below-test, p .0 .few), rest-ready (a .image .now) (a .k) (a .places .now) (a .node) (a .l) (a .t .now) (p .0) (a .out .now) _ (a .old .now) _ (c .before .before .before .before .before .before .before .before .before .before .before .before .before .before .before .before .before .before .before .before .before .before .before .kept .result) (p .1 .size) (c .before .before .before .before .before .before .before .before .before .before .before .before .before .before .before .before .before .before .before .before .before .before .before .before .before .before .before .before .before-first .ensures .0) (p .2) (c .before .before .before .before .before .before .before .before .before .before .before .before .before .before .before .before .before .before .before .before .before .before .before .before .before .before .before .before .before .before .before .size .result) (c .before .before .before .before .before .before .before .before .before .before .before .before .before .before .before .before .before .before .before .before .before .before .before .before .before .before .before .before .before .before .before .size .ensures) (c .before .before .before .before .before .before .before .before .before .before .before .before .before .before .before .before .before .before .before .before .before .before .before .kept .ensures) _ _ _ _ (c .before .before .before .before .before .before .before .before .before .before .before .before .before .before .before .before .before .unroll .ensures) _ _ (c .before .before .before .before .before .before .before .skipped .ensures))
 
 turns-copy-requires : (t : ℕ) → turns-lts.Need-copy-requires (turns-claims t) (turns-at t) turns.Post
 turns-copy-requires t c κs =
@@ -564,17 +618,17 @@ turns-returns t c =
 unroll-returns : (t : ℕ) → unroll-lts.Need-returns (unroll-claims t) (unroll-at t) unroll.Post
 unroll-returns t c = let a = c .before .before .before .before .before .args in
     let p = c .before .before .before .before .before .pre .1 in
-    none-unrolls (a .image .now) (a .k) (a .places .now) (a .body) (a .left) (a .w) (a .cur .now) (a .out .now) (a .old .now) p (a .least) (λ e. c .if1 .taken)
+    none-unrolls (a .image .now) (a .k) (a .places .now) (a .body) (a .test) (a .left) (a .w) (a .cur .now) (a .out .now) (a .old .now) p (a .least) (λ e. c .if1 .taken)
 
 unroll-returns-2 : (t : ℕ) → unroll-lts.Need-returns-2 (unroll-claims t) (unroll-at t) unroll.Post
 unroll-returns-2 t c = let a = c .before .before .before .before .before .before .before .args in
     let p = c .before .before .before .before .before .before .before .pre .1 in
-    none-unrolls (a .image .now) (a .k) (a .places .now) (a .body) (a .left) (a .w) (a .cur .now) (a .out .now) (a .old .now) p (a .least) (λ e. absurd (omega (arith, e, c .if2 .taken)))
+    none-unrolls (a .image .now) (a .k) (a .places .now) (a .body) (a .test) (a .left) (a .w) (a .cur .now) (a .out .now) (a .old .now) p (a .least) (λ e. absurd (omega (arith, e, c .if2 .taken)))
 
-unroll-walk-requires : (t : ℕ) → unroll-lts.Need-walk-requires (unroll-claims t) (unroll-at t) unroll.Post
-unroll-walk-requires t c κs = let a = c .before .before .before .before .before .before .before .before .before .args in
+unroll-iteration-requires : (t : ℕ) → unroll-lts.Need-iteration-requires (unroll-claims t) (unroll-at t) unroll.Post
+unroll-iteration-requires t c κs = let a = c .before .before .before .before .before .before .before .before .before .args in
     let p = c .before .before .before .before .before .before .before .before .before .pre .1 in
-    (omega (arith, c .before .before .before .before .before .before .before .before .before .pre .0), one-ready (a .image .now) (a .k) (a .places .now) (a .body) (a .left) (a .w) (a .cur .now) (a .out .now) (a .old .now) p (c .before .if3 .taken))
+    (omega (arith, c .before .before .before .before .before .before .before .before .before .pre .0), one-ready (a .image .now) (a .k) (a .places .now) (a .body) (a .test) (a .left) (a .w) (a .cur .now) (a .out .now) (a .old .now) p (c .before .if3 .taken))
 
 unroll-size-requires : (t : ℕ) → unroll-lts.Need-size-requires (unroll-claims t) (unroll-at t) unroll.Post
 unroll-size-requires t c κs = let a = c .before .before .before .before .before .before .before .before .before .before .before .before .args in
@@ -584,7 +638,7 @@ unroll-size-requires t c κs = let a = c .before .before .before .before .before
 unroll-joined-requires : (t : ℕ) → unroll-lts.Need-joined-requires (unroll-claims t) (unroll-at t) unroll.Post
 unroll-joined-requires t c κs = let a = c .before .before .before .before .before .before .before .before .before .before .before .before .before .before .before .args in
     let p = c .before .before .before .before .before .before .before .before .before .before .before .before .before .before .before .pre .1 in
-    (omega (arith, p .few), omega (arith, c .before .before .size .ensures, c .before .before .before .before .before .walk .ensures .size, p .size), omega (arith, c .before .before .size .ensures, p .size-out))
+    (omega (arith, p .few), omega (arith, c .before .before .size .ensures, c .before .before .before .before .before .iteration .ensures .size, p .size), omega (arith, c .before .before .size .ensures, p .size-out))
 
 unroll-size-requires-2 : (t : ℕ) → unroll-lts.Need-size-requires-2 (unroll-claims t) (unroll-at t) unroll.Post
 unroll-size-requires-2 t c κs = let a = c .before .before .before .before .before .before .before .before .before .before .before .before .before .before .before .before .before .before .args in
@@ -594,10 +648,10 @@ unroll-size-requires-2 t c κs = let a = c .before .before .before .before .befo
 unroll-watched-requires : (t : ℕ) → unroll-lts.Need-watched-requires (unroll-claims t) (unroll-at t) unroll.Post
 unroll-watched-requires t c κs = let a = c .before .before .before .before .before .before .before .before .before .before .before .before .before .before .before .before .before .before .before .before .before .args in
     let p = c .before .before .before .before .before .before .before .before .before .before .before .before .before .before .before .before .before .before .before .before .before .pre .1 in
-    (omega (arith, c .before .before .size2 .ensures, c .before .before .before .before .before .before .before .before .before .before .before .walk .ensures .size, p .size), omega (arith, c .before .before .size2 .ensures, p .size-old), omega (arith, p .few, c .before .before .before .before .before .before .before .before .before .before .before .before .before .if3 .taken), p .small)
+    (omega (arith, c .before .before .size2 .ensures, c .before .before .before .before .before .before .before .before .before .before .before .iteration .ensures .size, p .size), omega (arith, c .before .before .size2 .ensures, p .size-old), omega (arith, p .few, c .before .before .before .before .before .before .before .before .before .before .before .before .before .if3 .taken), p .small)
 
 unroll-same-length : (t : ℕ) → unroll-lts.Need-same-length (unroll-claims t) (unroll-at t) unroll.Post
-unroll-same-length t c = c .before .before .before .before .before .before .before .before .before .before .before .before .before .before .walk .ensures .size
+unroll-same-length t c = c .before .before .before .before .before .before .before .before .before .before .before .before .before .before .iteration .ensures .size
 
 unroll-same-length-2 : (t : ℕ) → unroll-lts.Need-same-length-2 (unroll-claims t) (unroll-at t) unroll.Post
 unroll-same-length-2 t c = c .before .before .before .before .before .before .before .before .joined .ensures .0
@@ -610,13 +664,13 @@ unroll-returns-3 t c =
     let a = c .before .before .before .before .before .before .before .before .before .before .before .before .before .before .before .before .before .before .before .before .before .before .before .before .args in
     let p = c .before .before .before .before .before .before .before .before .before .before .before .before .before .before .before .before .before .before .before .before .before .before .before .before .pre .1 in
     let none-yet : a .w .cycle ≡ 0 = omega (arith, c .before .before .before .before .before .before .before .before .before .before .before .before .before .before .before .before .before .if2 .left) in
-    one-unrolls (a .image .now) (a .k) (a .places .now) (a .body) (a .left) (a .w) (a .cur .now) (a .out .now) (a .old .now) p (a .least) (c .before .before .before .before .before .before .before .before .before .before .before .before .before .before .before .before .if3 .taken) none-yet _ _ _ _ (c .before .before .before .before .before .before .before .before .before .before .before .before .before .before .walk .ensures) (c .before .before .before .before .before .before .before .before .joined .ensures .0)
+    one-unrolls (a .image .now) (a .k) (a .places .now) (a .body) (a .test) (a .left) (a .w) (a .cur .now) (a .out .now) (a .old .now) p (a .least) (c .before .before .before .before .before .before .before .before .before .before .before .before .before .before .before .before .if3 .taken) none-yet _ _ _ _ (c .before .before .before .before .before .before .before .before .before .before .before .before .before .before .iteration .ensures) (c .before .before .before .before .before .before .before .before .joined .ensures .0)
     (turned-at (a .k) _ (sym (c .before .before .before .before .before .before .before .before .before .before .before .size .ensures)) _ _ _ _ _ (c .before .before .before .before .before .before .before .before .joined .ensures .1)) _ (c .before .before .before .before .before .size2 .ensures) (c .before .before .watched .ensures)
 
 unroll-unroll-requires : (t : ℕ) → unroll-lts.Need-unroll-requires (unroll-claims t) (unroll-at t) unroll.Post
 unroll-unroll-requires t c κs = let a = c .before .before .before .before .before .before .before .before .before .before .before .args in
     let p = c .before .before .before .before .before .before .before .before .before .before .before .pre .1 in
-    (omega (arith, c .before .before .before .before .before .before .before .before .before .before .before .pre .0), half-ready (a .image .now) (a .k) (a .places .now) (a .body) (a .left) (a .w) (a .cur .now) (a .out .now) (a .old .now) p (a .left / 2) (omega arith))
+    (omega (arith, c .before .before .before .before .before .before .before .before .before .before .before .pre .0), half-ready (a .image .now) (a .k) (a .places .now) (a .body) (a .test) (a .left) (a .w) (a .cur .now) (a .out .now) (a .old .now) p (a .left / 2) (omega arith))
 
 unroll-sub-unroll : (t : ℕ) → unroll-lts.Need-sub-unroll (unroll-claims t) (unroll-at t) unroll.Post
 unroll-sub-unroll t c = omega arith
@@ -625,7 +679,7 @@ unroll-unroll-requires-2 : (t : ℕ) → unroll-lts.Need-unroll-requires-2 (unro
 unroll-unroll-requires-2 t c κs =
     let a = c .before .before .before .before .before .before .before .before .before .before .before .before .before .before .before .before .before .before .before .before .before .args in
     let p = c .before .before .before .before .before .before .before .before .before .before .before .before .before .before .before .before .before .before .before .before .before .pre .1 in
-    (omega (arith, c .before .before .before .before .before .before .before .before .before .before .before .before .before .before .before .before .before .before .before .before .before .pre .0, c .before .before .before .before .before .before .before .before .before .before .before .before .before .before .before .before .if1 .left, c .before .before .before .before .before .before .before .before .before .before .before .before .before .if3 .left), other-ready (a .image .now) (a .k) (a .places .now) (a .body) (a .left) (a .w) (a .cur .now) (a .out .now) (a .old .now) p (a .least) (a .left / 2) (omega arith) _ _ _ _ (c .before .before .before .before .before .before .before .before .before .unroll .ensures))
+    (omega (arith, c .before .before .before .before .before .before .before .before .before .before .before .before .before .before .before .before .before .before .before .before .before .pre .0, c .before .before .before .before .before .before .before .before .before .before .before .before .before .before .before .before .if1 .left, c .before .before .before .before .before .before .before .before .before .before .before .before .before .if3 .left), other-ready (a .image .now) (a .k) (a .places .now) (a .body) (a .test) (a .left) (a .w) (a .cur .now) (a .out .now) (a .old .now) p (a .least) (a .left / 2) (omega arith) _ _ _ _ (c .before .before .before .before .before .before .before .before .before .unroll .ensures))
 
 unroll-same-length-4 : (t : ℕ) → unroll-lts.Need-same-length-4 (unroll-claims t) (unroll-at t) unroll.Post
 unroll-same-length-4 t c = c .before .before .before .before .before .before .unroll2 .ensures .size ∙ c .before .before .before .before .before .before .before .before .before .before .before .before .before .before .before .before .unroll .ensures .size
@@ -640,7 +694,7 @@ unroll-returns-4 : (t : ℕ) → unroll-lts.Need-returns-4 (unroll-claims t) (un
 unroll-returns-4 t c =
     let a = c .before .before .before .before .before .before .before .before .before .before .before .before .before .before .before .before .before .before .before .before .before .before .before .before .before .before .before .before .args in
     let p = c .before .before .before .before .before .before .before .before .before .before .before .before .before .before .before .before .before .before .before .before .before .before .before .before .before .before .before .before .pre .1 in
-    both-unroll (a .k) (treeAt (a .image .now) (a .body)) (a .least) (a .left) (a .left / 2) (omega arith) (a .w) _ _ (a .cur .now) (a .out .now) (a .old .now) _ _ _ _ _ _
+    both-unroll (a .k) (turnTrees (a .image .now) (a .body) (a .test)) (a .least) (a .left) (a .left / 2) (omega arith) (a .w) _ _ (a .cur .now) (a .out .now) (a .old .now) _ _ _ _ _ _
     (c .before .before .before .before .before .before .before .before .before .before .before .before .before .before .before .before .unroll .ensures) (c .before .before .before .before .before .before .unroll2 .ensures)
 
 -- ---- walk
@@ -822,9 +876,9 @@ wide-repeat-same-length t c = c .before .before .before .before .turns .ensures 
 wide-repeat-returns : (t : ℕ) → wide-repeat-lts.Need-returns (wide-repeat-claims t) (wide-repeat-at t) wide-repeat.Post
 wide-repeat-returns t c = c .before .before .before .before .turns .ensures
 
-pub +arms+branch+repeat+sequence+turns+unroll+walk+wide-branch+wide-repeat-spec : {M : Type 1} → statement M
-+arms+branch+repeat+sequence+turns+unroll+walk+wide-branch+wide-repeat-spec =
-    close μ-arms μ-branch μ-repeat μ-sequence μ-turns μ-unroll μ-walk μ-wide-branch μ-wide-repeat
+pub +arms+branch+iteration+repeat+sequence+turns+unroll+walk+wide-branch+wide-repeat-spec : {M : Type 1} → statement M
++arms+branch+iteration+repeat+sequence+turns+unroll+walk+wide-branch+wide-repeat-spec =
+    close μ-arms μ-branch μ-iteration μ-repeat μ-sequence μ-turns μ-unroll μ-walk μ-wide-branch μ-wide-repeat
     (λ t. arms-lts.spec (arms-claims t) (arms-at t) arms.Post arms-Inv-loop arms-μ-loop
     (arms-size-requires t)
     (arms-loop-holds t)
@@ -851,7 +905,13 @@ pub +arms+branch+repeat+sequence+turns+unroll+walk+wide-branch+wide-repeat-spec 
     (branch-arms-requires t)
     (branch-same-length-2 t)
     (branch-returns-2 t))
+    (λ t. iteration-lts.spec (iteration-claims t) (iteration-at t) iteration.Post
+    (iteration-walk-requires t)
+    (iteration-walk-requires-2 t)
+    (iteration-same-length t)
+    (iteration-returns t))
     (λ t. repeat-lts.spec (repeat-claims t) (repeat-at t) repeat.Post
+    (repeat-walk-requires t)
     (repeat-wide-repeat-requires t)
     (repeat-same-length t)
     (repeat-returns t)
@@ -888,7 +948,7 @@ pub +arms+branch+repeat+sequence+turns+unroll+walk+wide-branch+wide-repeat-spec 
     (λ t. unroll-lts.spec (unroll-claims t) (unroll-at t) unroll.Post
     (unroll-returns t)
     (unroll-returns-2 t)
-    (unroll-walk-requires t)
+    (unroll-iteration-requires t)
     (unroll-size-requires t)
     (unroll-joined-requires t)
     (unroll-size-requires-2 t)
