@@ -160,10 +160,10 @@ fn takes(given: Result<Figures, Refusal>, table: &[u64], both: [u64; 2], exit: u
     given == Ok(figures) && table == times
 }
 
-// The block is executed 28,125 times. Of each period the core owns 16 cycles, so 16 accesses take one period: 1,757 of them, and 13 accesses more,
-// of which the last is the first after offset 31 and ends at 1.
+// The block is executed 28,125 times. The core owns 16 cycles of each period, so 16 accesses take one: 1,757 periods, and 13 accesses more, of which
+// the last starts at 0 and ends at 1.
 const DEEPEST: [u64; 2] = [1_757 * 32 + 29; 2];
-// On unequal slots, after offset 20.
+// On unequal slots likewise.
 const DEEPEST_UNEQUAL: [u64; 2] = [1_757 * 21 + 18; 2];
 // The first is fetched and ends at 5, and the others are hit, once round the period and 1 cycle more. Published: no wait is as long as a hit.
 const DEEPEST_ONCE: [u64; 2] = [1 + 28_124 * 65, 28_125 * 65];
