@@ -1,10 +1,11 @@
 //! The job of `figure` done the plain way, for the comparison of speed (bench/README.md): a task image on standard input, its listing on
-//! standard output, as document 01 and requests W1, W5 and W9 of document 02 have them, refusals included. Standard library only.
+//! standard output, as document 01 and requests W1, W3, W5 and W9 of document 02 have them, refusals included. Standard library only.
 //!
-//! The plain way: each visit of a block takes every reached offset and every duration, and a loop is unrolled by a plain loop; where an image
-//! has lines, there is one table of longest times for each set of lines fetched. With equal slots a wait is worked out where it is asked for;
-//! with a schedule there is a table of them, made once. Nothing else is kept from one visit to another and no iteration is skipped. What it
-//! does not do: it has no library entry that is lent a table, so that number 10 never comes up; and nothing about it is proved.
+//! The plain way: each visit of a block takes every reached offset and every duration, and a loop is unrolled by a plain loop, its test before
+//! the first iteration and after each; where an image has lines, there is one table of longest times for each set of lines fetched. With equal
+//! slots a wait is worked out where it is asked for; with a schedule there is a table of them, made once. Nothing else is kept from one visit
+//! to another and no iteration is skipped. What it does not do: it has no library entry that is lent a table, so that number 10 never comes up;
+//! and nothing about it is proved.
 
 use std::fmt::Write as _;
 use std::io::{Read, Write};
@@ -55,6 +56,15 @@ impl Once {
     }
 }
 
+/// A loop, as small as its field too.
+#[derive(Clone, Copy)]
+struct Loop {
+    least: u16,
+    greatest: u16,
+    body: u16,
+    test: u16,
+}
+
 /// The children of a sequence or branch stay in the image, two bytes each.
 #[derive(Clone, Copy)]
 enum Node<'a> {
@@ -63,7 +73,7 @@ enum Node<'a> {
     Once(Once),
     Sequence(&'a [u8]),
     Branch(&'a [u8]),
-    Loop { least: usize, greatest: usize, body: usize },
+    Loop(Loop),
 }
 
 #[derive(Default)]
@@ -111,7 +121,7 @@ fn judge(image: &[u8]) -> Result<Task<'_>, Refusal> {
             3 => length == 4,
             5 => (2..=32).contains(&length) && length % 2 == 0,
             6 => (4..=16).contains(&length) && length % 2 == 0,
-            7 => length == 6,
+            7 => length == 8,
             8 => length == 2,
             9 => (3..=65).contains(&length) && length % 2 == 1,
             _ => length == 5,
@@ -222,8 +232,8 @@ fn node<'a>(tag: u8, body: &'a [u8], bus: &Bus) -> Option<Node<'a>> {
         5 => (Node::Sequence(body), true),
         6 => (Node::Branch(body), true),
         7 => {
-            let (least, greatest, body) = (word(body), word(&body[2..]), word(&body[4..]));
-            (Node::Loop { least, greatest, body }, least <= greatest && greatest <= 10_000)
+            let [least, greatest, body, test] = [0, 2, 4, 6].map(|at| word(&body[at..]) as u16);
+            (Node::Loop(Loop { least, greatest, body, test }), least <= greatest && greatest <= 10_000)
         }
         _ => {
             let (line, lowest, highest, hit) = (body[0], body[1], body[2], word(&body[3..]) as u16);
@@ -247,9 +257,9 @@ fn size(node: &Node, sizes: &[(usize, usize)]) -> Option<(usize, usize)> {
             }
             (deepest, sum)
         }
-        Node::Loop { greatest, body, .. } => {
-            let (depth, visits) = sizes.get(*body)?;
-            (*depth, greatest * visits)
+        Node::Loop(l) => {
+            let (body, test) = (sizes.get(l.body as usize)?, sizes.get(l.test as usize)?);
+            (body.0.max(test.0), l.greatest as usize * (body.1 + test.1) + test.1)
         }
     };
     Some((1 + depth, (1 + visits).min(100_001)))
@@ -337,13 +347,15 @@ impl Task<'_> {
                     self.join_times(times, &exits);
                 }
             }
-            Node::Loop { least, greatest, body } => {
+            Node::Loop(Loop { least, greatest, body, test }) => {
+                self.longest(*test as usize, times);
                 let mut current = *times;
                 if *least > 0 {
                     *times = [[NONE; 256]; SETS];
                 }
                 for done in 1..greatest + 1 {
-                    self.longest(*body, &mut current);
+                    self.longest(*body as usize, &mut current);
+                    self.longest(*test as usize, &mut current);
                     if done >= *least {
                         self.join_times(times, &current);
                     }
@@ -408,14 +420,15 @@ impl Task<'_> {
                 }
                 largest
             }
-            Node::Loop { least, greatest, body } => {
+            Node::Loop(Loop { least, greatest, body, test }) => {
+                let mut sum = self.cost(*test as usize, set);
                 let mut current = *set;
                 if *least > 0 {
                     *set = [false; 256];
                 }
-                let mut sum = 0;
                 for done in 1..greatest + 1 {
-                    sum += self.cost(*body, &mut current);
+                    sum += self.cost(*body as usize, &mut current);
+                    sum += self.cost(*test as usize, &mut current);
                     if done >= *least {
                         join_sets(set, &current);
                     }

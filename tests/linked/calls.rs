@@ -116,30 +116,37 @@ fn wrong(image: &[u8], expected: &Expected) -> Option<String> {
     None
 }
 
-// Calls as deep as they come: depth 24, all loops over node 0, with the most halvings of counts that 100,000 visits permit. From 4. One loop more
-// stands above the entry, which is named.
+// Calls as deep as they come: depth 24, all loops over node 0, with the most halvings of counts that 100,000 visits permit; in the tight figure none
+// is periodic before its last iteration. They are tested by a plain block of 0 cycles, behind the other blocks. From 4. One loop more stands above
+// the entry, which is named.
 fn deepest(bus: &str, blocks: &[&str]) -> Vec<u8> {
-    let mut image = read_image(&format!("{bus} 02000104 {}", blocks.concat()));
+    let mut image = read_image(&format!("{bus} 02000104 {} {ZERO}", blocks.concat()));
+    let test = blocks.len() as u8;
     let mut body = 0;
     for i in 0..24 {
-        let count = if i < 7 { 5 } else { 1 };
-        image.extend([7, 0, 6, 0, count, 0, count, 0, body]);
-        body = blocks.len() as u8 + i;
+        let count = match i {
+            0 => 9,
+            1..=5 => 5,
+            _ => 1,
+        };
+        image.extend([7, 0, 8, 0, count, 0, count, 0, body, 0, test]);
+        body = test + 1 + i;
     }
     image.extend([8, 0, 2, 0, body - 1]);
     image
 }
 
-// 2 cores, slot 5; 4 cores, slot 16, where 4 lines make 1,024 combinations of lines and offset; slots of unequal length, so that of ten offsets 9, 0, 1
-// and 5, 6 are stretches. Core 0 of each.
-const TEN: &str = "010003020500";
+// 2 cores, slot 16; 4 cores, slot 16, where 4 lines make 1,024 combinations of lines and offset; slots of unequal length, so that of 21 offsets 16 to
+// 20 with 0 to 3, and 7 to 13, are stretches. Core 0 of each.
+const EQUAL: &str = "010003021000";
 const LINED: &str = "010003041000";
-const UNEQUAL: &str = "09000b00 0002 0103 0002 0102 0001";
+const UNEQUAL: &str = "09000b00 0004 0103 0007 0102 0005";
 
-// Always accesses 2; plain, 1 cycle; fetched once in 1 cycle, line 3, with a hit of 64.
-const A2: &str = "040003020202";
+// Always accesses 1; plain, 1 cycle, and 0; fetched once in 1 cycle, line 3, with a hit of 65.
+const A1: &str = "040003020101";
 const PLAIN: &str = "03000400010001";
-const ONCE: &str = "0a00050301010040";
+const ZERO: &str = "03000400000000";
+const ONCE: &str = "0a00050301010041";
 
 // Whether those are both figures, and the first of them the time of the one exit offset.
 fn takes(given: Result<Figures, Refusal>, table: &[u64], both: [u64; 2], exit: usize) -> bool {
@@ -153,35 +160,36 @@ fn takes(given: Result<Figures, Refusal>, table: &[u64], both: [u64; 2], exit: u
     given == Ok(figures) && table == times
 }
 
-// A2 from 4 takes 8 and ends at 2, from 2 it takes 2 and ends at 4: 78,125 in turn, 8 first and last, end at 2.
-const DEEPEST: [u64; 2] = [39_063 * 8 + 39_062 * 2; 2];
-// The first of 78,125 is fetched and ends at 5, and the others are hit, once round the period. Published: no wait is as long as a hit.
-const DEEPEST_ONCE: [u64; 2] = [1 + 78_124 * 64, 78_125 * 64];
-// On unequal slots A2 from 4 takes 3 and ends at 7, from 7 it takes 4 and ends at 1, from 1 it takes 6 and ends at 7.
-const DEEPEST_UNEQUAL: [u64; 2] = [3 + 39_062 * (4 + 6); 2];
+// The block is executed 28,125 times. The core owns 16 cycles of each period, so 16 accesses take one: 1,757 periods, and 13 accesses more, of which
+// the last starts at 0 and ends at 1.
+const DEEPEST: [u64; 2] = [1_757 * 32 + 29; 2];
+// On unequal slots likewise.
+const DEEPEST_UNEQUAL: [u64; 2] = [1_757 * 21 + 18; 2];
+// The first is fetched and ends at 5, and the others are hit, once round the period and 1 cycle more. Published: no wait is as long as a hit.
+const DEEPEST_ONCE: [u64; 2] = [1 + 28_124 * 65, 28_125 * 65];
 
 fn deepest_calls() -> bool {
-    let (mut table, mut lined, mut unequal) = ([NO_TIME; 10], [NO_TIME; 64], [NO_TIME; 10]);
-    let given = figures(&deepest(TEN, &[A2]), &mut table);
+    let (mut table, mut lined, mut unequal) = ([NO_TIME; 32], [NO_TIME; 64], [NO_TIME; 21]);
+    let given = figures(&deepest(EQUAL, &[A1]), &mut table);
     let once = figures(&deepest(LINED, &[ONCE]), &mut lined);
-    let pairs = figures(&deepest(UNEQUAL, &[A2]), &mut unequal);
-    takes(given, &table, DEEPEST, 2)
-        && takes(once, &lined, DEEPEST_ONCE, 5)
-        && takes(pairs, &unequal, DEEPEST_UNEQUAL, 7)
+    let pairs = figures(&deepest(UNEQUAL, &[A1]), &mut unequal);
+    takes(given, &table, DEEPEST, 1)
+        && takes(once, &lined, DEEPEST_ONCE, 33)
+        && takes(pairs, &unequal, DEEPEST_UNEQUAL, 1)
 }
 
-// The same with a plain block beside it, which the entry does not reach; and over a plain block: 78,125 times 3 cycles from 4 end at 9.
+// The same with a plain block beside it, which the entry does not reach; and over a plain block: 28,125 times 3 cycles from 4 end at 27.
 fn deepest_previews() -> bool {
-    let (mut table, mut lined, mut unequal) = ([NO_TIME; 10], [NO_TIME; 64], [NO_TIME; 10]);
-    let mut other = [NO_TIME; 10];
-    let beside = preview(&deepest(TEN, &[A2, PLAIN]), 1, 3, 3, &mut table);
+    let (mut table, mut lined, mut unequal) = ([NO_TIME; 32], [NO_TIME; 64], [NO_TIME; 21]);
+    let mut other = [NO_TIME; 32];
+    let beside = preview(&deepest(EQUAL, &[A1, PLAIN]), 1, 3, 3, &mut table);
     let once = preview(&deepest(LINED, &[ONCE, PLAIN]), 1, 3, 3, &mut lined);
-    let pairs = preview(&deepest(UNEQUAL, &[A2, PLAIN]), 1, 3, 3, &mut unequal);
-    let below = preview(&deepest(TEN, &[PLAIN]), 0, 3, 3, &mut other);
-    takes(beside, &table, DEEPEST, 2)
-        && takes(once, &lined, DEEPEST_ONCE, 5)
-        && takes(pairs, &unequal, DEEPEST_UNEQUAL, 7)
-        && takes(below, &other, [3 * 78_125; 2], 9)
+    let pairs = preview(&deepest(UNEQUAL, &[A1, PLAIN]), 1, 3, 3, &mut unequal);
+    let below = preview(&deepest(EQUAL, &[PLAIN]), 0, 3, 3, &mut other);
+    takes(beside, &table, DEEPEST, 1)
+        && takes(once, &lined, DEEPEST_ONCE, 33)
+        && takes(pairs, &unequal, DEEPEST_UNEQUAL, 1)
+        && takes(below, &other, [3 * 28_125; 2], 27)
 }
 
 // The longest image of a block: it, and 255 sequences of 16 children, of which the last is named, from all 256 starts, on a bus of 32 pairs.
