@@ -43,7 +43,7 @@ enum {
     SLOTFIGURES_LENGTH = 4,     /* "length": a body length that the tag does not permit */
     SLOTFIGURES_VALUE = 5,      /* "value": a number that breaks the rules of its field, order, products and sums included; or the durations
                                    given for a block do */
-    SLOTFIGURES_FORWARD = 6,    /* "forward": a child number not below the node's own */
+    SLOTFIGURES_FORWARD = 6,    /* "forward": a child number not below the node's own, of a loop its body's or its test's */
     SLOTFIGURES_UNFINISHED = 7, /* "unfinished": the image ends, between fields, before a node field */
     SLOTFIGURES_DEEP = 8,       /* "deep": the entry's depth is above 24 */
     SLOTFIGURES_LONG = 9,       /* "long": the entry's visits are above 100,000 */
@@ -73,8 +73,8 @@ enum {
 
 /* Judges an image.
  *   image    the task image's bytes. Its nodes are numbered from 0 as they stand in it: the third field is node 0. The last node is the entry,
- *            or the one whose number stands in a field with tag 8, which may close the image and is no node. No accepted image has more than
- *            9,265 bytes.
+ *            or the one whose number stands in a field with tag 8, which may close the image and is no node. A loop, tag 7, names a body and
+ *            a test: its body length is 8, and one of 6, without a test, is refused. No accepted image has more than 9,265 bytes.
  *   answer   at least 2 places. DONE: 0, and the period, which is the number of places that a table for this image needs.
  *            REFUSED: the number, 1 to 9, 11 or 18, and the place. Later places keep their contents.
  */

@@ -220,7 +220,8 @@ pub fn period(image: &[u8]) -> Result<usize, Refusal> {
 /// Whether an image is accepted, or why it is not (numbers 1 to 9, 11 and 18).
 ///
 /// Nodes are numbered from 0 as they stand in the image: its third field is node 0. The last is the entry, or the one whose number stands in a
-/// field with tag 8, which may close the image and is no node. No accepted image has more than 9,265 bytes.
+/// field with tag 8, which may close the image and is no node. A loop, tag 7, names a body and a test: its body length is 8, and one of 6, without a
+/// test, is refused with 4. No accepted image has more than 9,265 bytes.
 pub fn judge(image: &[u8]) -> Result<(), Refusal> {
     period(image).map(|_| ())
 }
