@@ -169,6 +169,9 @@ module _ (b : Bus) (q : Places) (turn : Turning (b .period) q) {X : Type 0} (emp
         below-same empty join law (suc greatest - least) _ _ (λ i m. ap (λ (U : List X). getD U o empty) (turns-untested (least + i) .0)))
 
 -- the times
+pub times-idle : (b : Bus) (q : Places) → Turning (b .period) q → (T : List Time) → length T ≡ q .size → times b q idle T ≡ T
+times-idle b q turn T h = left-alone b q turn noTime longer longer-joins later later-zero T h
+
 pub times-untested : (b : Bus) (q : Places) → Turning (b .period) q → (least greatest : ℕ) (body : Tree) (T : List Time) → length T ≡ q .size
     → times b q (Tree.loop least greatest body idle) T ≡ repeated b q noTime longer later least greatest body T
 times-untested b q turn least greatest body T h =

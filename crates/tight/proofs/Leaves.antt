@@ -1,16 +1,34 @@
--- What a block that is fetched once asks of the rows.
-use mathlib.Core.Path.{_≡_, refl}
+-- A plain block of duration 0 leaves the array as it is; what a block that is fetched once asks of the rows.
+use mathlib.Core.Path.{_≡_, refl, sym}
 use mathlib.Core.List.{List}
 use native.Mathlib.Omega.{arith}
 use Prim.Native.Nat.{ℕ, suc, _+_, _*_, _/_, _%_, _≤_, _<_}
 use Rattle.runs.specs.Lines.{power, add}
-use Rattle.runs.proofs.LinesLaws.{power-pos, add-in}
+use Rattle.runs.specs.Schedules.{owning}
+use Rattle.runs.specs.Clock.{withLines}
+use Rattle.runs.specs.Nodes.{Tree}
+use Rattle.runs.proofs.Joins.{row-length}
+use Rattle.runs.proofs.LinesLaws.{power-pos, add-in, lines-turn}
+use Rattle.runs.proofs.Untested.{times-idle}
+use Rattle.bus.specs.Owning.{busMeant}
 use Rattle.image.specs.declared.Walk.{Walk}
 use Rattle.nodes.proofs.Fetches.{few-sets}
-use Rattle.times.specs.Arrays.{Fits}
+use Rattle.times.specs.Arrays.{tableOf, Fits}
 use Rattle.lined.specs.Lined.{FitsFrom, RowsReady}
 use Rattle.lined.proofs.RowLaws.{half-has, row-fits}
-use Rattle.tight.specs.Steps.{Steppable, OnceReady}
+use Rattle.tight.specs.Steps.{sizeOf, table, Walked, Steppable, PlainReady, OnceReady}
+
+pub idle-walks : (k : Walk) (lo hi : ℕ) (t : List ℕ) → PlainReady k lo hi t → hi ≡ 0 → Walked k (Tree.plain lo hi) t t
+unfolding tableOf withLines owning
+idle-walks k lo hi t (n, h) e =
+    let z : lo ≡ 0 = omega (arith, n .order) in
+    record {
+      size = refl;
+      steps =
+          rw (z, e)
+          (sym (times-idle (busMeant (k .bus)) (withLines (k .bus .period) (k .outline .lines))
+          (lines-turn (k .bus .period) (h .sized .fit .least) (k .outline .lines)) (table k t) (row-length (sizeOf k) _)));
+    }
 
 -- a set without a line has one with it
 paired : (n x j : ℕ) → x < n → j < power n → j / power x % 2 ≡ 0 → j + power x < power n

@@ -34,11 +34,14 @@ fn size(k: Walk) -> usize
     k.outline.sets * bus::period(k.bus)
 }
 
-// The step of a plain block.
+// The step of a plain block. Where no cycle passes, as in a test that takes no time, every time stays where it is.
 fn plain_block(k: Walk, p: Plain, t: &mut [u64])
     requires { ⌜ PlainReady k (p .lowest) (p .highest) (now t) ⌝ }
     ensures { λ _. ⌜ Walked k (Tree.plain (p .lowest) (p .highest)) (now (t .entry)) (now (t .exit)) ⌝ }
 {
+    if p.highest == 0 {
+        return;
+    }
     lined::each_row(k.bus, Step::Plain, p.lowest, p.highest, k.outline.sets, t);
 }
 
