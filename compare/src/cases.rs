@@ -1527,20 +1527,16 @@ pub fn limits_of_tests(cases: &mut Cases) {
             }
         }
         // 5 before 6: least and greatest, then body and test
-        for (least, greatest) in
-            [(0, 0), (0, 1), (1, 1), (1, 0), (10_000, 10_000), (0, 10_001), (10_001, 10_000), (65_535, 65_535)]
-        {
-            for body in [0, 1, 2, 3, 256, 65_535] {
-                for test in [0, 1, 2, 3, 257, 65_535] {
-                    let expected = if least > greatest || greatest > 10_000 {
-                        at(5, place)
-                    } else if body >= 2 || test >= 2 {
-                        at(6, place)
-                    } else {
-                        Accepted
-                    };
-                    add([&begun[..], &looped(least, greatest, body, test)].concat(), expected);
-                }
+        for (least, greatest) in [(0, 0), (0, 2), (1, 1), (1, 0), (10_000, 10_000), (0, 10_001), (65_535, 65_535)] {
+            for (body, test) in [0, 1, 2, 3].into_iter().flat_map(|body| [0, 1, 2, 257, 65_535].map(|test| (body, test))) {
+                let expected = if least > greatest || greatest > 10_000 {
+                    at(5, place)
+                } else if body >= 2 || test >= 2 {
+                    at(6, place)
+                } else {
+                    Accepted
+                };
+                add([&begun[..], &looped(least, greatest, body, test)].concat(), expected);
             }
         }
         // a loop is no first node
@@ -1593,12 +1589,10 @@ pub fn limits_of_tests(cases: &mut Cases) {
     let kinds =
         [a2(), plain(2, 5), bus_block(1, 1, 3), fetch(2, 1, 2, 9), sequence(&[0, 1]), branch(&[2, 3]), looped(0, 1, 0, 1)];
     for opening in &openings {
-        for kind in 0..7 {
-            for other in [0, 1, 3, 6] {
-                for (least, greatest) in [(0, 0), (0, 1), (2, 2)] {
-                    add([opening.clone(), kinds.concat(), looped(least, greatest, other, kind)].concat(), Accepted);
-                    add([opening.clone(), kinds.concat(), looped(least, greatest, kind, other)].concat(), Accepted);
-                }
+        for (kind, other) in (0..7).flat_map(|kind| [1, 3].map(|other| (kind, other))) {
+            for (least, greatest) in [(0, 0), (0, 1), (2, 2)] {
+                add([opening.clone(), kinds.concat(), looped(least, greatest, other, kind)].concat(), Accepted);
+                add([opening.clone(), kinds.concat(), looped(least, greatest, kind, other)].concat(), Accepted);
             }
         }
     }

@@ -893,6 +893,9 @@ pub fn all(seed: u64, wanted: usize) -> Vec<Case> {
     cases::worked(&mut all);
     cases::worked_lines(&mut all);
     cases::worked_schedules(&mut all);
+    cases::worked_tests(&mut all);
+    cases::limits_of_tests(&mut all);
+    cases::visits_of_tests(&mut all);
     cases::small_schedules(&mut all);
     cases::limits(&mut all);
     cases::limits_of_lines(&mut all);
@@ -901,9 +904,6 @@ pub fn all(seed: u64, wanted: usize) -> Vec<Case> {
     cases::depth_and_visits(&mut all);
     cases::worked_entries(&mut all);
     cases::limits_of_entries(&mut all);
-    cases::worked_tests(&mut all);
-    cases::limits_of_tests(&mut all);
-    cases::visits_of_tests(&mut all);
     cases::order(&mut all);
     cases::sizes(&mut all);
     // all worked tasks and every sixth other image are written with tag 9 too; every sixth image with its entry named; all worked tasks and

@@ -241,7 +241,7 @@ fn main() {
     let threads = std::thread::available_parallelism().map_or(2, |number| number.get()).min(8) as u64;
     let numbers = [
         ("--seed", 1),
-        ("--images", 32_000),
+        ("--images", 35_000),
         ("--threads", threads),
         ("--limit", 30),
         ("--seconds", 140),

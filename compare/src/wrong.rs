@@ -384,7 +384,11 @@ fn judge(fault: &Fault, bytes: &[u8]) -> Result<Image, Refusal> {
                 }
             }
         }
-        place += if tag == 9 && fault.is("starts-at-6") { 6 } else { 3 + length };
+        place += match tag {
+            9 if fault.is("starts-at-6") => 6,
+            7 if fault.is("loop-of-9-bytes") => 9,
+            _ => 3 + length,
+        };
         // a second field 1, which a fault let through, stands in place of the first
         number += usize::from(number != 1 || tag != 1 && tag != 9);
     }
@@ -900,9 +904,10 @@ fn test_bad(image: &Image, body: &[u8], length: usize) -> bool {
 /// Whether a child number of a loop is at fault and comes before 5.
 fn early_child_bad(fault: &Fault, image: &Image, body: &[u8], length: usize) -> bool {
     let own = image.nodes.len() as u64;
-    match (fault.0.as_str(), &named(fault, 7, body, length)[..]) {
-        ("test-before-value", [_, test]) => *test >= own,
-        ("body-before-value", [body, _]) => *body >= own,
+    let [body, test] = named(fault, 7, body, length)[..] else { return false };
+    match fault.0.as_str() {
+        "test-before-value" => test >= own,
+        "body-before-value" => body >= own,
         _ => false,
     }
 }
@@ -1358,6 +1363,7 @@ fn execute_node(fault: &Fault, image: &Image, number: usize, entry: &Times) -> T
         _ => {
             // a body or a test not below its own number, which a fault let through, is not executed
             let [body, test] = node.parts().map(|part| part.filter(|&part| part < number));
+            let test = test.filter(|_| !fault.is("test-ignored"));
             let mut tested = |times: &Times| match test {
                 Some(test) => execute_test(fault, image, (node, test), times, entry),
                 None => times.clone(),
@@ -1526,7 +1532,7 @@ fn iterate(fault: &Fault, image: &Image, number: usize, entry: &Times, step: &mu
         "greatest-only" => k == node.high,
         "fewer-count-too" => true,
         "count-0-lost" => k >= node.low && (k > 0 || node.high == 0),
-        // a count of tests: the body is executed once less, but none of both where it is 0
+        // a count of tests: the body is executed once less; 0 counts as 1
         "count-of-tests" => k + 1 >= node.low && (k < node.high || node.high == 0),
         _ => k >= node.low || k == node.high,
     };
@@ -1667,6 +1673,7 @@ fn cost(fault: &Fault, image: &Image, number: usize, entry: &BTreeSet<State>) ->
         }
         _ => {
             let [body, test] = node.parts().map(|part| part.filter(|&part| part < number));
+            let test = test.filter(|_| !fault.is("test-ignored"));
             let of = |part: Option<usize>, set: &BTreeSet<State>| match part {
                 Some(part) => cost(fault, image, part, set),
                 None => (0, set.clone()),
