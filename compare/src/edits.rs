@@ -24,8 +24,7 @@ mod runs;
 
 use edit_generate::{Case, Expected};
 use editing::Found;
-use image::Node;
-use reference::{executed, Lines, Named, Tested, Unequal};
+use reference::{executed, executed_loops, Lines, Named, Tested, Unequal};
 use report::{Options, Tests};
 use std::collections::BTreeMap;
 use std::sync::Mutex;
@@ -68,19 +67,6 @@ struct Summary {
     in_test: usize,
 }
 
-/// Whether a test of a loop that the entry executes is this block, and whether it executes it.
-fn in_tests(task: &image::Task, block: usize) -> (bool, bool) {
-    let nodes = executed(task, task.entry());
-    let tests: Vec<usize> = nodes
-        .into_iter()
-        .filter_map(|number| match task.nodes[number] {
-            Node::Loop { test, .. } => Some(test),
-            _ => None,
-        })
-        .collect();
-    (tests.contains(&block), tests.iter().any(|&test| executed(task, test).contains(&block)))
-}
-
 /// Compares the program's line for an edit.
 fn perform(number: usize, case: &Case, line: &str, summary: &Mutex<Summary>) {
     let answer = editing::answer(&case.edit, STEPS);
@@ -102,7 +88,9 @@ fn perform(number: usize, case: &Case, line: &str, summary: &Mutex<Summary>) {
         summary.named.count(task);
         summary.above += usize::from(case.edit.node > task.entry() as u64);
         summary.tested.count(task);
-        let (of_test, in_test) = in_tests(task, case.edit.node as usize);
+        let (block, loops) = (case.edit.node as usize, executed_loops(task));
+        let of_test = loops.iter().any(|&(_, _, test)| test == block);
+        let in_test = loops.iter().any(|&(_, _, test)| executed(task, test).contains(&block));
         summary.of_test += usize::from(of_test);
         summary.in_test += usize::from(in_test && !of_test);
     }
@@ -168,7 +156,7 @@ fn main() {
     let lines = summary.fetched.min(summary.with_lines).min(summary.wider) >= 200;
     let schedules = summary.with_pairs >= 5_000 && summary.unequal.all >= 1_000 && summary.unequal.met(50);
     let entries = summary.with_entry >= 5_000 && summary.named.not_last >= 1_000 && summary.named.met(50) && summary.above >= 200;
-    let tested = summary.tested.busy >= 1_000 && summary.tested.met(100) && summary.of_test >= 500 && summary.in_test >= 200;
+    let tested = summary.tested.busy >= 1_000 && summary.tested.met(100) && summary.of_test >= 500 && summary.in_test >= 100;
     let ways = summary.enumerated >= 2_000 && summary.calculated >= 100;
     let met = each_refusal && edits && lines && schedules && entries && tested && ways;
     summary.tests.close(all.len() + batches.len(), &[(met, "too few edits of some kind")], LEAST_PASSED);

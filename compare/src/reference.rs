@@ -125,13 +125,7 @@ pub struct Tested {
 
 impl Tested {
     pub fn count(&mut self, task: &Task) {
-        let loops: Vec<(u64, usize, usize)> = executed(task, task.entry())
-            .into_iter()
-            .filter_map(|number| match task.nodes[number] {
-                Node::Loop { least, body, test, .. } => Some((least, body, test)),
-                _ => None,
-            })
-            .collect();
+        let loops = executed_loops(task);
         let busy: Vec<_> =
             loops.iter().filter(|(_, _, test)| task.nodes[*test] != Node::Plain { lowest: 0, highest: 0 }).collect();
         // whether the test of one of them executes such a node
@@ -160,6 +154,15 @@ impl Tested {
         let each = [self.at_0, self.chooses, self.accesses, self.fetches, self.loops, self.body];
         each.into_iter().all(|met| met >= least)
     }
+}
+
+/// The loops that some run executes: least count, body and test.
+pub fn executed_loops(task: &Task) -> Vec<(u64, usize, usize)> {
+    let all = executed(task, task.entry()).into_iter().filter_map(|number| match task.nodes[number] {
+        Node::Loop { least, body, test, .. } => Some((least, body, test)),
+        _ => None,
+    });
+    all.collect()
 }
 
 /// The nodes that some execution of this one executes, itself among them: of a loop of no iterations the test alone.

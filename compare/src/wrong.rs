@@ -1480,6 +1480,7 @@ fn tested(fault: &Fault, image: &Image, number: usize, k: u64, before: Times, te
     match fault.0.as_str() {
         // once before all iterations, or after all; not before the first
         "test-once-first" if k > 0 => (before.clone(), before),
+        "test-lost-after-255" if k > 255 => (before.clone(), before),
         "test-once-last" => {
             let after = test(&before);
             (before, after)
@@ -1706,6 +1707,7 @@ fn cost(fault: &Fault, image: &Image, number: usize, entry: &BTreeSet<State>) ->
                     "published-last-test-twice" if k == node.high => 2 * one,
                     "published-idle-test-lost" if node.high == 0 => 0,
                     "published-one-test" if k > 0 => 0,
+                    "published-tests-to-255" if k > 255 => 0,
                     "published-tests-of-least" if k > node.low => 0,
                     "published-first-test-times" if k > 0 => head,
                     "published-largest-test" => one.max(head),
