@@ -1,7 +1,7 @@
 //! Images written by hand: the worked tasks, both sides of every limit, and inputs where more than one refusal holds.
 
 use crate::generate::{
-    blank_nodes, branch, bus, bus_block, entry, fetch, field, looped, plain, schedule, sequence, starts, Cases, Expected,
+    blank_nodes, branch, bus, bus_block, entry, fetch, field, idle, looped, plain, schedule, sequence, starts, Cases, Expected,
 };
 use crate::image::bus_of;
 use Expected::{Accepted, Open, Refused};
@@ -73,16 +73,17 @@ pub fn worked(cases: &mut Cases) {
     let mut exits = vec![(0, 10)];
     exits.extend((1..10).map(|o| (o, o)));
     task(small_bus(), &[0], &[plain(0, 10)], (10, 10), &exits);
-    // "Loop over A2, counts 1 to 3, from {4}: 2 after 18, 4 after 10; both figures 18."
-    task(small_bus(), &[4], &[a2(), looped(1, 3, 0)], (18, 18), &[(2, 18), (4, 10)]);
+    // "Loop over A2, counts 1 to 3, from {4}: 2 after 18, 4 after 10; both figures 18." "The loop tasks of document 01 hold with a plain
+    // block of duration 0 as test".
+    task(small_bus(), &[4], &[a2(), idle(), looped(1, 3, 0, 1)], (18, 18), &[(2, 18), (4, 10)]);
     // "Loop, counts 0 to 0, from {4}: exit 4, both figures 0."
-    task(small_bus(), &[4], &[a2(), looped(0, 0, 0)], (0, 0), &[(4, 0)]);
+    task(small_bus(), &[4], &[a2(), idle(), looped(0, 0, 0, 1)], (0, 0), &[(4, 0)]);
     // "A2 twice from {3, 5}"
     task(small_bus(), &[3, 5], &[a2(), sequence(&[0, 0])], (9, 14), &[(2, 9), (4, 9)]);
-    // the longest time of an image with 100,000 visits: 99,989 plain blocks of 65,535
+    // the longest time of an image with 100,000 visits: 4 × 20,001 + 19,989 + 1 = 99,994 plain blocks of 65,535, as bodies and as tests
     let longest =
-        [plain(65_535, 65_535), looped(10_000, 10_000, 0), looped(9_989, 9_989, 0), sequence(&[1, 1, 1, 1, 1, 1, 1, 1, 1, 2])];
-    task(small_bus(), &[0], &longest, (6_552_779_115, 6_552_779_115), &[(5, 6_552_779_115)]);
+        [plain(65_535, 65_535), looped(10_000, 10_000, 0, 0), looped(9_994, 9_994, 0, 0), sequence(&[1, 1, 1, 1, 2, 0])];
+    task(small_bus(), &[0], &longest, (6_553_106_790, 6_553_106_790), &[(0, 6_553_106_790)]);
 
     // the same five lines from the bytes as printed
     let printed = [1, 0, 3, 2, 5, 0, 2, 0, 2, 3, 5, 4, 0, 3, 2, 2, 2, 5, 0, 4, 0, 0, 0, 0];
@@ -99,10 +100,14 @@ pub fn worked(cases: &mut Cases) {
     let nested = |levels: u16| from_zero(small_bus(), &tower(a2(), levels, &|below| sequence(&[below])));
     cases.add("worked", nested(23), line("tight 2\npublished 2\nexits 1\n2 2"));
     cases.add("worked", nested(24), line(&format!("refused 8 {}", 6 + 4 + 6 + 24 * 5)));
-    // "A loop of 10,000 over a block, inside a loop of 9: 90,010 visits, accepted. Inside a loop of 10: 100,011, gives 9."
-    let inside = |count: u16| from_zero(small_bus(), &[plain(10, 10), looped(10_000, 10_000, 0), looped(count, count, 1)]);
-    cases.add("worked", inside(9), line("tight 900000\npublished 900000\nexits 1\n0 900000"));
-    cases.add("worked", inside(10), line(&format!("refused 9 {}", 6 + 4 + 7 + 9 + 9)));
+    // "save the visit cases": a loop of 10,000 over a block has 1 + 10,000 × 2 + 1 = 20,002 visits; inside a loop of 4 these are 1 + 4 ×
+    // 20,003 + 1 = 80,014, inside a loop of 5 they are 100,017; inside one of 9 or 10, as in document 01, still more
+    let inside =
+        |count: u16| from_zero(small_bus(), &[plain(10, 10), idle(), looped(10_000, 10_000, 0, 1), looped(count, count, 2, 1)]);
+    cases.add("worked", inside(4), line("tight 400000\npublished 400000\nexits 1\n0 400000"));
+    for count in [5, 9, 10] {
+        cases.add("worked", inside(count), line(&format!("refused 9 {}", 6 + 4 + 7 + 7 + 11 + 11)));
+    }
     // "An empty image gives 7 at place 0."
     cases.add("worked", Vec::new(), line("refused 7 0"));
 }
@@ -184,7 +189,7 @@ pub fn limits(cases: &mut Cases) {
         let even = length % 2 == 0;
         add(task(&[plain(1, 1), field(5, &zeros)]), either(even && (2..=32).contains(&length), 4));
         add(task(&[plain(1, 1), field(6, &zeros)]), either(even && (4..=16).contains(&length), 4));
-        add(task(&[plain(1, 1), field(7, &zeros)]), either(length == 6, 4));
+        add(task(&[plain(1, 1), field(7, &zeros)]), either(length == 8, 4));
         add(task(&[field(3, &zeros)]), either(length == 4, 4));
         let ones = vec![1; length.into()];
         add(task(&[field(4, &ones)]), either(length == 3, 4));
@@ -220,8 +225,11 @@ pub fn limits(cases: &mut Cases) {
                 sequence(&[child, 0]),
                 branch(&[child, 0]),
                 branch(&[0, 0, child]),
-                looped(0, 2, child),
-                looped(0, 0, child),
+                looped(0, 2, child, 0),
+                looped(0, 0, child, 0),
+                looped(0, 2, 0, child),
+                looped(0, 0, 0, child),
+                looped(1, 2, child, child),
             ] {
                 add([before.clone(), last].concat(), either(good && own > 0, 6));
             }
@@ -231,7 +239,7 @@ pub fn limits(cases: &mut Cases) {
     // 7 loop: "least ≤ greatest ≤ 10,000"
     for least in [0u16, 1, 2, 255, 256, 257, 9_999, 10_000, 10_001, 32_768, 65_535] {
         for greatest in [0, 1, 2, 255, 256, 257, 9_999, 10_000, 10_001, 10_256, 32_768, 65_535] {
-            let image = [bus(2, 1, 0), starts(&[1]), bus_block(1, 1, 1), looped(least, greatest, 0)].concat();
+            let image = [bus(2, 1, 0), starts(&[1]), bus_block(1, 1, 1), idle(), looped(least, greatest, 0, 1)].concat();
             add(image, either(least <= greatest && greatest <= 10_000, 5));
         }
     }
@@ -255,7 +263,7 @@ pub fn limits(cases: &mut Cases) {
 }
 
 /// Code fetched once, change request W9: tasks with what `figure` writes for them, worked out here. Cores 2, slot 5, core 0, P = 10, unless
-/// said. F is a block of line 0 that accesses for 2 cycles and has a hit time of 1.
+/// said. F is a block of line 0 that accesses for 2 cycles and has a hit time of 1. Loops have a plain block of duration 0 as test.
 pub fn worked_lines(cases: &mut Cases) {
     let mut task = |bus: Vec<u8>, from: &[u8], nodes: &[Vec<u8>], figures: (u64, u64), exits: &[(u64, u64)]| {
         cases.add("worked lines", [bus, starts(from), nodes.concat()].concat(), listing(figures, exits));
@@ -271,17 +279,17 @@ pub fn worked_lines(cases: &mut Cases) {
     // F in a loop of 3 from {4}. The first iteration waits 6 and accesses: 2 after 8; then hits: 3 after 9, 4 after 10.
     // Published: {4}: 8 to 2, 1 to 5, costs 8. {2, 5}: 2 to 4, 1 to 3; 7 to 2, 1 to 6, costs 7. {2, 3, 4, 6}: of the accesses that from
     // 4 is the longest, costs 8. Sum 23.
-    task(small_bus(), &[4], &[f(), looped(3, 3, 0)], (10, 23), &[(4, 10)]);
-    task(small_bus(), &[4], &[f(), looped(1, 3, 0)], (10, 23), &[(2, 8), (3, 9), (4, 10)]);
+    task(small_bus(), &[4], &[f(), idle(), looped(3, 3, 0, 1)], (10, 23), &[(4, 10)]);
+    task(small_bus(), &[4], &[f(), idle(), looped(1, 3, 0, 1)], (10, 23), &[(2, 8), (3, 9), (4, 10)]);
     // a loop of 2 around a loop of 2, from {0}: 2 after 2, then three hits. Published: {0} costs 2, {1, 2} costs 2, {2, 3, 4} costs 8,
     // {2, 3, 4, 5} costs 8.
-    task(small_bus(), &[0], &[f(), looped(2, 2, 0), looped(2, 2, 1)], (5, 20), &[(5, 5)]);
+    task(small_bus(), &[0], &[f(), idle(), looped(2, 2, 0, 1), looped(2, 2, 2, 1)], (5, 20), &[(5, 5)]);
     // no iteration: nothing is fetched
-    task(small_bus(), &[4], &[fetch(3, 2, 2, 1), looped(0, 0, 0)], (0, 0), &[(4, 0)]);
+    task(small_bus(), &[4], &[fetch(3, 2, 2, 1), idle(), looped(0, 0, 0, 1)], (0, 0), &[(4, 0)]);
     // F with a hit of 3, none or once in a loop and then once more, from {0}: 2 after 2, or 2 after 2 and then 5 after 5.
     // Published: the loop costs 3 and ends at {0, 2, 3}; from there the block costs 3.
     let hit_3 = || fetch(0, 2, 2, 3);
-    task(small_bus(), &[0], &[hit_3(), looped(0, 1, 0), sequence(&[1, 0])], (5, 6), &[(2, 2), (5, 5)]);
+    task(small_bus(), &[0], &[hit_3(), idle(), looped(0, 1, 0, 1), sequence(&[2, 0])], (5, 6), &[(2, 2), (5, 5)]);
     // "counted over all nodes with that line": F, then a block of the same line with a hit of 5, from {0}: 2 after 2, 7 after 7.
     // Published: costs 2, ends at {1, 2}; then 3 or 5, costs 5.
     let other = || fetch(0, 3, 3, 5);
@@ -297,12 +305,12 @@ pub fn worked_lines(cases: &mut Cases) {
     // both arms end at 2, after 2 with the line and after 12 without; then 5 after 5 and 4 after 14. Published: 12 and 3.
     task(small_bus(), &[0], &[hit_3(), plain(12, 12), branch(&[0, 1]), sequence(&[2, 0])], (14, 15), &[(4, 14), (5, 5)]);
     // a hit slower than the access: twice, hit 9, from {0}: 2 after 2, 1 after 11. Published: 9 and 9.
-    task(small_bus(), &[0], &[fetch(0, 2, 2, 9), looped(2, 2, 0)], (11, 18), &[(1, 11)]);
+    task(small_bus(), &[0], &[fetch(0, 2, 2, 9), idle(), looped(2, 2, 0, 1)], (11, 18), &[(1, 11)]);
     // hits of 0 and 65,535, twice: 2 after 2; 7 after 65,537. Published: 2 and 2 (from 0); twice 65,535.
-    task(small_bus(), &[0], &[fetch(0, 2, 2, 0), looped(2, 2, 0)], (2, 4), &[(2, 2)]);
-    task(small_bus(), &[0], &[fetch(0, 2, 2, 65_535), looped(2, 2, 0)], (65_537, 131_070), &[(7, 65_537)]);
+    task(small_bus(), &[0], &[fetch(0, 2, 2, 0), idle(), looped(2, 2, 0, 1)], (2, 4), &[(2, 2)]);
+    task(small_bus(), &[0], &[fetch(0, 2, 2, 65_535), idle(), looped(2, 2, 0, 1)], (65_537, 131_070), &[(7, 65_537)]);
     // hits of 256 and of 1 are told apart: 2 after 2, then 8 after 258
-    task(small_bus(), &[0], &[fetch(0, 2, 2, 256), looped(2, 2, 0)], (258, 512), &[(8, 258)]);
+    task(small_bus(), &[0], &[fetch(0, 2, 2, 256), idle(), looped(2, 2, 0, 1)], (258, 512), &[(8, 258)]);
     // 1 to 3 cycles from {3}: 4 after 1, 5 after 2, and with a wait of 7: 3 after 10. Published: costs 10, ends at {3, 4, 5}.
     task(small_bus(), &[3], &[fetch(0, 1, 3, 1)], (10, 10), &[(3, 10), (4, 1), (5, 2)]);
     // twice: each of these and a hit. Published: from 3 it costs 10 again.
@@ -311,14 +319,14 @@ pub fn worked_lines(cases: &mut Cases) {
     // costs 8 from 4.
     task(small_bus(), &[3, 5], &[f(), sequence(&[0, 0])], (8, 15), &[(3, 8), (6, 3)]);
     // core 1, twice from {9}: 7 after 8, 8 after 9. Published: 8, ends at {0, 7}, then 7 from 0.
-    task(bus(2, 5, 1), &[9], &[f(), looped(2, 2, 0)], (9, 15), &[(8, 9)]);
+    task(bus(2, 5, 1), &[9], &[f(), idle(), looped(2, 2, 0, 1)], (9, 15), &[(8, 9)]);
     // blocks without a line fetch none: always 2, may 2, F, F from {0}. The always-access block: 2 after 2. The may-access one: 4 after 4.
     // F: 2 after 12, then 3 after 13. Published: 2, 2; {4} costs 8, ends at {2, 5}; then 7.
     let others = [a2(), bus_block(1, 2, 2), f(), sequence(&[0, 1, 2, 2])];
     task(small_bus(), &[0], &others, (13, 19), &[(3, 13)]);
     // a branch of a block of line 0 that accesses for 5 and has a hit of 40, and plain 30, in loops from {5}: each ends at 5, the access
     // after 10. The longest of k: 30 × k with plain alone, or 10 + 40 × (k − 1), longer from k = 4 on. Published: 40 each.
-    let arms = |count: u16, least: u16| [fetch(0, 5, 5, 40), plain(30, 30), branch(&[0, 1]), looped(least, count, 2)];
+    let arms = |count: u16, least: u16| [fetch(0, 5, 5, 40), plain(30, 30), idle(), branch(&[0, 1]), looped(least, count, 3, 2)];
     task(small_bus(), &[5], &arms(2, 2), (60, 80), &[(5, 60)]);
     task(small_bus(), &[5], &arms(3, 3), (90, 120), &[(5, 90)]);
     task(small_bus(), &[5], &arms(4, 4), (130, 160), &[(5, 130)]);
@@ -329,7 +337,7 @@ pub fn worked_lines(cases: &mut Cases) {
     for (count, tight, published) in
         [(4_680, 306_633_600, 306_699_120), (4_681, 306_699_122, 306_764_654), (5_000, 327_604_468, 327_670_000)]
     {
-        let nodes = [fetch(0, 1, 1, 65_534), plain(65_520, 65_520), branch(&[0, 1]), looped(count, count, 2)];
+        let nodes = [fetch(0, 1, 1, 65_534), plain(65_520, 65_520), idle(), branch(&[0, 1]), looped(count, count, 3, 2)];
         task(bus(2, 1, 0), &[1], &nodes, (tight, published), &[(1, tight)]);
     }
     // all 16 combinations meet at offset 1, period 2: each line is fetched after 2, or 10 cycles are passed; then each once more, a hit of
@@ -349,7 +357,7 @@ pub fn worked_lines(cases: &mut Cases) {
     task(bus(2, 1, 0), &[1], &nodes, (68, 104), &[(1, 68)]);
     // only line 3, which makes 4 lines: 64 × 16 = 1,024. F of line 3 twice, core 3 of 4 cores × slot 16, from {63}: a wait of 49, then 2:
     // 50 after 51, 51 after 52. Published: 51, ends at {0, 50}; from 0 a wait of 48, then 2.
-    task(bus(4, 16, 3), &[63], &[fetch(3, 2, 2, 1), looped(2, 2, 0)], (52, 101), &[(51, 52)]);
+    task(bus(4, 16, 3), &[63], &[fetch(3, 2, 2, 1), idle(), looped(2, 2, 0, 1)], (52, 101), &[(51, 52)]);
     // a line of a node that is not reached
     task(bus(4, 16, 0), &[0], &[fetch(3, 2, 2, 1), plain(1, 1)], (1, 1), &[(1, 1)]);
     task(bus(16, 16, 0), &[0], &[fetch(1, 2, 2, 1), plain(1, 1)], (1, 1), &[(1, 1)]);
@@ -411,14 +419,14 @@ pub fn limits_of_lines(cases: &mut Cases) {
     for levels in [22, 23, 24] {
         let nodes = tower(fetch(3, 2, 2, 1), levels, &|below| sequence(&[below]));
         add(one(nodes.concat()), either(levels <= 23, 8));
-        let nodes = tower(fetch(3, 2, 2, 1), levels, &|below| looped(1, 1, below));
+        let nodes = tower(fetch(3, 2, 2, 1), levels, &|below| looped(1, 1, below, 0));
         add(one(nodes.concat()), either(levels <= 23, 8));
     }
-    // 1 + 9 × 10,001 + (last + 1) + more
-    for (last, more) in [(9_988, 1), (9_988, 2), (9_989, 0), (9_990, 0)] {
-        let named = [vec![1; 9], vec![2], vec![0; more]].concat();
-        let visits = 1 + 9 * 10_001 + (u64::from(last) + 1) + more as u64;
-        let nodes = [fetch(0, 1, 2, 3), looped(9_999, 10_000, 0), looped(last, last, 0), sequence(&named)];
+    // 1 + 4 × 20,002 + (2 × last + 2) + more
+    for (last, more) in [(9_994, 0), (9_994, 1), (9_994, 2), (9_995, 0)] {
+        let named = [vec![1; 4], vec![2], vec![0; more]].concat();
+        let visits = 1 + 4 * 20_002 + (2 * u64::from(last) + 2) + more as u64;
+        let nodes = [fetch(0, 1, 2, 3), looped(9_999, 10_000, 0, 0), looped(last, last, 0, 0), sequence(&named)];
         add(one(nodes.concat()), either(visits <= 100_000, 9));
     }
 }
@@ -518,29 +526,30 @@ pub fn worked_schedules(cases: &mut Cases) {
     // first costs 6, from {2, 7} the second costs 4.
     task(&two, &[5, 6], &[a2(), bus_block(2, 1, 1), sequence(&[0, 1])], (7, 10), &[(1, 6), (3, 7)]);
     // A2 in a loop of 1 to 3 from {4}: 7 after 3, then waits of 3 each: 2 after 8, 7 after 13
-    task(&two, &[4], &[a2(), looped(1, 3, 0)], (13, 13), &[(2, 8), (7, 13)]);
+    task(&two, &[4], &[a2(), idle(), looped(1, 3, 0, 1)], (13, 13), &[(2, 8), (7, 13)]);
     // a branch of A2 and plain 4 from {6}
     task(&two, &[6], &[a2(), plain(4, 4), branch(&[0, 1])], (6, 6), &[(0, 4), (2, 6)]);
     // fetched once, 2 cycles and a hit of 1, twice from {6}: 2 after 6, then 3 after 7. Published: {6} costs 6 and ends at {2, 7}, from
     // both an access takes 5.
-    task(&two, &[6], &[fetch(0, 2, 2, 1), looped(2, 2, 0)], (7, 11), &[(3, 7)]);
+    task(&two, &[6], &[fetch(0, 2, 2, 1), idle(), looped(2, 2, 0, 1)], (7, 11), &[(3, 7)]);
     // 3 cycles from {5} pass the short stretch over: a wait of 5, 3 after 8. Published: a hit of 9 costs more.
     task(&two, &[5], &[fetch(3, 3, 3, 9)], (8, 9), &[(3, 8)]);
     // round the period: 5 cycles in a loop of 3 from {7}: 2 after 5, then waits of 5 each
-    task(&round, &[7], &[bus_block(2, 5, 5), looped(3, 3, 0)], (25, 25), &[(2, 25)]);
+    task(&round, &[7], &[bus_block(2, 5, 5), idle(), looped(3, 3, 0, 1)], (25, 25), &[(2, 25)]);
     // A2 twice from {8, 9}: 0 after 2 and 1 after 2; then 2 after 4, and with a wait of 6: 9 after 10. Published: 2 and 8.
     task(&round, &[8, 9], &[a2(), sequence(&[0, 0])], (10, 10), &[(2, 4), (9, 10)]);
     // plain blocks go by the period alone
     task(&round, &[9], &[plain(4, 4)], (4, 4), &[(3, 4)]);
     // a lone core in a loop: no wait, 5 cycles each, from {3}; P = 1, where every run ends at 0
-    task(&schedule(7, &[(7, 5)]), &[3], &[bus_block(2, 5, 5), looped(0, 10_000, 0)], (50_000, 50_000), &[(3, 50_000)]);
+    let lone = [bus_block(2, 5, 5), idle(), looped(0, 10_000, 0, 1)];
+    task(&schedule(7, &[(7, 5)]), &[3], &lone, (50_000, 50_000), &[(3, 50_000)]);
     let one = schedule(0, &[(0, 1)]);
     task(&one, &[0], &[plain(0, 63)], (63, 63), &[(0, 63)]);
-    task(&one, &[0], &[bus_block(1, 1, 1), looped(7, 10_000, 0)], (10_000, 10_000), &[(0, 10_000)]);
+    task(&one, &[0], &[bus_block(1, 1, 1), idle(), looped(7, 10_000, 0, 1)], (10_000, 10_000), &[(0, 10_000)]);
     // fetched once: 1 and then a hit of 9. Published: 9 each.
     task(&one, &[0], &[fetch(3, 1, 1, 9), sequence(&[0, 0])], (10, 18), &[(0, 10)]);
     // 256 cycles each time, and 254 more for the first from {129}
-    let long = [bus_block(2, 255, 255), looped(10_000, 10_000, 0)];
+    let long = [bus_block(2, 255, 255), idle(), looped(10_000, 10_000, 0, 1)];
     task(&all_but_one, &[127], &long, (2_560_000, 2_560_000), &[(127, 2_560_000)]);
     task(&all_but_one, &[129], &long, (2_560_254, 2_560_254), &[(127, 2_560_254)]);
 }
@@ -825,16 +834,17 @@ pub fn number_of_lines(cases: &mut Cases) {
         for number in 0..4u8 {
             let block = || fetch(number, 1, 1, 2);
             let lower = || fetch(0, 1, 1, 3);
-            // alone; behind and before a lower line; not reached; not executed; in an arm; in every node; above the entry
+            // alone; behind and before a lower line; not reached; not executed; as a test alone; in an arm; in every node; above the entry
             let all = [
                 block(),
                 [lower(), block(), sequence(&[0, 1])].concat(),
                 [block(), lower(), sequence(&[0, 1])].concat(),
                 [block(), plain(1, 1)].concat(),
                 [block(), lower()].concat(),
-                [block(), looped(0, 0, 0)].concat(),
+                [block(), idle(), looped(0, 0, 0, 1)].concat(),
+                [block(), idle(), looped(0, 0, 1, 0)].concat(),
                 [block(), plain(1, 1), branch(&[0, 1]), sequence(&[2, 2])].concat(),
-                [(0..=number).flat_map(|line| fetch(line, 1, 1, 2)).collect(), looped(1, 2, number.into())].concat(),
+                [(0..=number).flat_map(|line| fetch(line, 1, 1, 2)).collect(), looped(1, 2, number.into(), 0)].concat(),
                 [block().repeat(5), sequence(&[4, 3, 2, 1, 0])].concat(),
                 [lower(), block(), sequence(&[0, 1]), entry(0)].concat(),
             ];
@@ -873,24 +883,26 @@ pub fn number_of_lines(cases: &mut Cases) {
     for (image, expected) in [
         placed(18, over(23, &|below| sequence(&[below]))),
         placed(8, over(24, &|below| sequence(&[below]))),
-        placed(18, over(23, &|below| looped(1, 1, below))),
-        placed(8, over(24, &|below| looped(1, 1, below))),
+        placed(18, over(23, &|below| looped(1, 1, below, 0))),
+        placed(8, over(24, &|below| looped(1, 1, below, 0))),
+        placed(18, over(23, &|below| looped(0, 0, 0, below))),
+        placed(8, over(24, &|below| looped(0, 0, 0, below))),
         placed(18, over(15, &|below| sequence(&[below, below]))),
         placed(9, over(16, &|below| sequence(&[below, below]))),
         placed(9, over(23, &|below| sequence(&[below, below]))),
         placed(8, over(24, &|below| sequence(&[below, below]))),
-        placed(18, with([looped(0, 10_000, 0), looped(0, 9, 1)].concat())),
-        placed(9, with([looped(0, 10_000, 0), looped(0, 10, 1)].concat())),
+        placed(18, with([looped(0, 10_000, 0, 0), looped(0, 4, 1, 0)].concat())),
+        placed(9, with([looped(0, 10_000, 0, 0), looped(0, 5, 1, 0)].concat())),
         // deep and long nodes that are not reached do not count, their lines do
         placed(18, [over(24, &|below| sequence(&[below])), plain(1, 1)].concat()),
-        placed(18, with([looped(0, 10_000, 0), looped(0, 10_000, 1), plain(1, 1)].concat())),
+        placed(18, with([looped(0, 10_000, 0, 0), looped(0, 10_000, 1, 0), plain(1, 1)].concat())),
         // depth and visits are those of the node named
         placed(18, [over(24, &|below| sequence(&[below])), entry(23)].concat()),
         placed(8, [over(24, &|below| sequence(&[below])), entry(24)].concat()),
         placed(8, [over(24, &|below| sequence(&[below])), plain(1, 1), entry(24)].concat()),
-        placed(18, with([looped(0, 10_000, 0), looped(0, 10, 1), entry(1)].concat())),
-        placed(9, with([looped(0, 10_000, 0), looped(0, 10, 1), entry(2)].concat())),
-        placed(9, with([looped(0, 10_000, 0), looped(0, 10, 1), plain(1, 1), entry(2)].concat())),
+        placed(18, with([looped(0, 10_000, 0, 0), looped(0, 5, 1, 0), entry(1)].concat())),
+        placed(9, with([looped(0, 10_000, 0, 0), looped(0, 5, 1, 0), entry(2)].concat())),
+        placed(9, with([looped(0, 10_000, 0, 0), looped(0, 5, 1, 0), plain(1, 1), entry(2)].concat())),
         placed(18, with(entry(0))),
     ] {
         add(image, expected);
@@ -909,26 +921,31 @@ pub fn depth_and_visits(cases: &mut Cases) {
         add(&tower(levels, &|below| sequence(&[0, below])), expected());
         add(&tower(levels, &|below| branch(&[below, 0])), expected());
         add(&tower(levels, &|below| branch(&[0, below])), expected());
-        add(&tower(levels, &|below| looped(1, 1, below)), expected());
-        add(&tower(levels, &|below| looped(0, 1, below)), expected());
-        // "Depth counts the body of a loop" that executes nothing
-        add(&tower(levels, &|below| looped(0, 0, below)), expected());
+        add(&tower(levels, &|below| looped(1, 1, below, 0)), expected());
+        add(&tower(levels, &|below| looped(0, 1, below, 0)), expected());
+        // "Depth counts the body of a loop" that executes none; and its test
+        add(&tower(levels, &|below| looped(0, 0, below, 0)), expected());
+        add(&tower(levels, &|below| looped(0, 0, 0, below)), expected());
+        add(&tower(levels, &|below| looped(0, 0, below, below)), expected());
+        add(&tower(levels, &|below| if below % 2 == 0 { looped(0, 0, 0, below) } else { looped(0, 0, below, 0) }), expected());
         add(
             &tower(levels, &|below| match below % 3 {
                 0 => sequence(&[below]),
                 1 => branch(&[0, below]),
-                _ => looped(0, 1, below),
+                _ => looped(0, 1, below, 0),
             }),
             expected(),
         );
-        // a deep node that the entry does not reach, or reaches only in a loop of no iterations
+        // a deep node that the entry does not reach, or reaches only in a loop of no iterations, or as a test
         if levels < 255 {
             let mut nodes = tower(levels, &|below| sequence(&[below]));
             nodes.push(plain(3, 4));
             add(&nodes, Accepted);
-            nodes.pop();
-            nodes.push(looped(0, 0, levels));
-            add(&nodes, either(levels <= 22, 8));
+            for above in [looped(0, 0, levels, 0), looped(0, 0, 0, levels), looped(3, 3, 0, levels)] {
+                nodes.pop();
+                nodes.push(above);
+                add(&nodes, either(levels <= 22, 8));
+            }
         }
         // 8 comes before 9
         let doubled = tower(levels, &|below| sequence(&[below, below]));
@@ -936,62 +953,72 @@ pub fn depth_and_visits(cases: &mut Cases) {
         add(&doubled, if levels > 23 { Refused(8) } else { either(visits_fit, 9) });
         let doubled = tower(levels, &|below| branch(&[below, below]));
         add(&doubled, if levels > 23 { Refused(8) } else { either(visits_fit, 9) });
-        let repeated = tower(levels, &|below| looped(0, 10_000, below));
+        let repeated = tower(levels, &|below| looped(0, 10_000, below, 0));
         add(&repeated, if levels > 23 { Refused(8) } else { either(levels == 1, 9) });
+        // a test of one iteration counts twice: 3 × 2^levels − 2; body and test: three times
+        let tested = tower(levels, &|below| looped(0, 1, 0, below));
+        add(&tested, if levels > 23 { Refused(8) } else { either(visits_fit, 9) });
+        let tested = tower(levels, &|below| looped(0, 1, below, below));
+        add(&tested, if levels > 23 { Refused(8) } else { either(levels <= 10, 9) });
     }
     for levels in [14, 15, 16, 17] {
         add(&tower(levels, &|below| sequence(&[below, below])), either(levels <= 15, 9));
         add(&tower(levels, &|below| branch(&[below, below])), either(levels <= 15, 9));
+        add(&tower(levels, &|below| looped(0, 1, 0, below)), either(levels <= 15, 9));
+    }
+    for levels in [9, 10, 11, 12] {
+        add(&tower(levels, &|below| looped(0, 1, below, below)), either(levels <= 10, 9));
     }
 
-    // sequences of ten 10,000-fold loops less some: 1 + 9 × 10,001 + (last + 1) + more blocks
-    for (last, more) in [(9_988, 1), (9_988, 2), (9_989, 0), (9_989, 1), (9_990, 0), (9_900, 6), (10_000, 0)] {
-        let mut named = vec![1, 1, 1, 1, 1, 1, 1, 1, 1, 2];
-        named.resize(10 + more, 0);
-        let visits = 1 + 9 * 10_001 + (last as u64 + 1) + more as u64;
-        add(&[plain(1, 2), looped(0, 10_000, 0), looped(3, last, 0), sequence(&named)], either(visits <= 100_000, 9));
+    // sequences of 10,000-fold loops, the last with fewer: 1 + 4 × 20,002 + (2 × last + 2) + more blocks
+    for (last, more) in [(9_993, 2), (9_993, 3), (9_993, 4), (9_994, 0), (9_994, 1), (9_994, 2), (9_995, 0), (10_000, 0)] {
+        let mut named = vec![1, 1, 1, 1, 2];
+        named.resize(5 + more, 0);
+        let visits = 1 + 4 * 20_002 + (2 * last as u64 + 2) + more as u64;
+        add(&[plain(1, 2), looped(0, 10_000, 0, 0), looped(3, last, 0, 0), sequence(&named)], either(visits <= 100_000, 9));
     }
-    // a branch adds all its arms, though one is executed: 1 + 8 × (1 + 12,499)
-    for (count, more) in [(6_249, 0), (6_249, 1), (6_248, 1)] {
-        // 1 + count × (1 + 1) for each arm
+    // a branch adds all its arms, though one is executed: 1 + 8 × arm, where an arm has 1 + count × 3 + 1
+    for (count, more) in [(4_165, 0), (4_166, 0), (4_165, 1)] {
+        // with one more the last arm is a sequence of that and two blocks
         let arms = [2u16, 2, 2, 2, 2, 2, 2, if more == 1 { 3 } else { 2 }];
-        let body = [plain(0, 0), sequence(&[0]), looped(count, count, 1), sequence(&[2, 0, 0])];
-        let arm = 1 + u64::from(count) * 2;
+        let body = [plain(0, 0), sequence(&[0]), looped(count, count, 1, 0), sequence(&[2, 0, 0])];
+        let arm = 1 + u64::from(count) * 3 + 1;
         let visits = 1 + 8 * arm + if more == 1 { 3 } else { 0 };
         let mut nodes = body.to_vec();
         nodes.push(branch(&arms));
         add(&nodes, either(visits <= 100_000, 9));
     }
-    let twelve = [plain(0, 1), looped(0, 10_000, 0), looped(0, 2_497, 0), sequence(&[1, 2])];
-    // 1 + 10,001 + 2,498 = 12,500; eight arms and the branch: 100,001; with one arm less of one block: 100,000
+    // 1 + 12,498 + 1 = 12,500; eight arms and the branch: 100,001; with one arm of one visit less: 100,000
+    let twelve = [plain(0, 1), looped(0, 6_248, 0, 0), sequence(&[1, 0])];
     let mut nodes = twelve.to_vec();
-    nodes.push(branch(&[3, 3, 3, 3, 3, 3, 3, 3]));
+    nodes.push(branch(&[2, 2, 2, 2, 2, 2, 2, 2]));
     add(&nodes, Refused(9));
     let mut nodes = twelve.to_vec();
-    nodes.extend([looped(0, 2_496, 0), sequence(&[1, 4]), branch(&[3, 3, 3, 3, 3, 3, 3, 5])]);
+    nodes.extend([sequence(&[1]), branch(&[2, 2, 2, 2, 2, 2, 2, 3])]);
     add(&nodes, Accepted);
-    // loops: 1 + greatest × visits of the body
+    // loops in loops, with a block as test: 1 + outer × (1 + inner × 2 + 1 + 1) + 1
     for (outer, inner, expected) in [
-        (9, 10_000, Accepted),
-        (10, 10_000, Refused(9)),
-        (10, 9_998, Accepted),
-        (10, 9_999, Refused(9)),
-        (10_000, 8, Accepted),
-        (10_000, 9, Refused(9)),
-        (9_999, 9, Accepted),
+        (4, 10_000, Accepted),
+        (5, 10_000, Refused(9)),
+        (5, 9_998, Accepted),
+        (5, 9_999, Refused(9)),
+        (10_000, 3, Accepted),
+        (10_000, 4, Refused(9)),
+        (9_090, 4, Accepted),
+        (9_091, 4, Refused(9)),
         (1, 10_000, Accepted),
         (0, 10_000, Accepted),
         (10_000, 0, Accepted),
     ] {
-        add(&[a2(), looped(inner, inner, 0), looped(outer, outer, 1)], expected.clone());
-        add(&[plain(1, 1), looped(0, inner, 0), looped(0, outer, 1)], expected);
+        add(&[a2(), looped(inner, inner, 0, 0), looped(outer, outer, 1, 0)], expected.clone());
+        add(&[plain(1, 1), looped(0, inner, 0, 0), looped(0, outer, 1, 0)], expected);
     }
     // "0 × huge = 0": visits far above 64 bits below a loop of no iterations, reached and unreached
     for levels in [2u16, 3, 5, 10, 20] {
         let mut nodes = vec![plain(5, 5)];
-        nodes.extend((0..levels).map(|below| looped(10_000, 10_000, below)));
+        nodes.extend((0..levels).map(|below| looped(10_000, 10_000, below, 0)));
         add(&nodes, Refused(9));
-        nodes.push(looped(0, 0, levels));
+        nodes.push(looped(0, 0, levels, 0));
         add(&nodes, Accepted);
         nodes.push(sequence(&[0, levels + 1, 0]));
         add(&nodes, Accepted);
@@ -1006,7 +1033,7 @@ pub fn depth_and_visits(cases: &mut Cases) {
             let visits = (1u128 << power) + more;
             let mut nodes = with_visits(visits);
             add(&nodes, either(visits <= 100_000, 9));
-            nodes.push(looped(0, 0, nodes.len() as u16 - 1));
+            nodes.push(looped(0, 0, nodes.len() as u16 - 1, 0));
             add(&nodes, Accepted);
         }
     }
@@ -1015,7 +1042,7 @@ pub fn depth_and_visits(cases: &mut Cases) {
     }
     // all 255 loops over each other, none reached
     let mut nodes = vec![plain(1, 1)];
-    nodes.extend((0..254).map(|below| looped(10_000, 10_000, below)));
+    nodes.extend((0..254).map(|below| looped(10_000, 10_000, below, below)));
     nodes.push(a2());
     add(&nodes, Accepted);
 }
@@ -1023,20 +1050,31 @@ pub fn depth_and_visits(cases: &mut Cases) {
 /// Nodes of which the last has exactly so many visits, about 2 deep for each factor of 10,000.
 fn with_visits(visits: u128) -> Vec<Vec<u8>> {
     let mut nodes = vec![plain(0, 1)];
-    // a loop over the block has 1 + count visits
-    if visits <= 10_001 {
-        nodes.push(looped(0, visits as u16 - 1, 0));
-        return nodes;
-    }
-    // 1 + (1 + 10,000 × body) + (1 + count)
-    let body = (visits - 4) / 10_000;
-    let count = visits - 3 - 10_000 * body;
-    nodes = with_visits(body);
-    let last = nodes.len() as u16 - 1;
-    nodes.push(looped(1, 10_000, last));
-    nodes.push(looped(0, count as u16, 0));
-    nodes.push(sequence(&[last + 1, last + 2]));
+    add_visits(&mut nodes, visits);
     nodes
+}
+
+/// Adds nodes to these, of which the first is a block. The number of one that has exactly so many visits: the last, or the block.
+fn add_visits(nodes: &mut Vec<Vec<u8>>, visits: u128) -> u16 {
+    if visits == 1 {
+        return 0;
+    }
+    // a loop over the block, which is its test too, has 1 + count × 2 + 1 visits; a sequence of it 1 more
+    if visits <= 20_003 {
+        nodes.push(looped(0, (visits as u16 - 2) / 2, 0, 0));
+        if visits % 2 == 1 {
+            nodes.push(sequence(&[nodes.len() as u16 - 1]));
+        }
+        return nodes.len() as u16 - 1;
+    }
+    // 1 + (1 + 10,000 × (body + 1) + 1) + rest
+    let body = (visits - 4) / 10_000 - 1;
+    let rest = visits - 3 - 10_000 * (body + 1);
+    let body = add_visits(nodes, body);
+    let rest = add_visits(nodes, rest);
+    nodes.push(looped(1, 10_000, body, 0));
+    nodes.push(sequence(&[nodes.len() as u16 - 1, rest]));
+    nodes.len() as u16 - 1
 }
 
 /// The entry named in the image, change request W1: tasks with what `figure` writes for them, worked out here. Cores 2, slot 5, core 0,
@@ -1049,23 +1087,25 @@ pub fn worked_entries(cases: &mut Cases) {
         };
     // each node of one image, from {4}. A2: a wait of 6, 2 after 8. Plain 3: 7 after 3. A branch of both. "Loop over A2, counts 1 to 3,
     // from {4}: 2 after 18, 4 after 10". A2 and then plain 3: 5 after 11. Plain 3 and then the loop: from 7 a wait of 3, 2 after 8, 4 after
-    // 10, 2 after 18.
-    let nodes = [a2(), plain(3, 3), branch(&[0, 1]), looped(1, 3, 0), sequence(&[0, 1]), sequence(&[1, 3]), plain(7, 7)];
+    // 10, 2 after 18. The loop's test, plain 0: 4 after 0.
+    let nodes =
+        [a2(), plain(3, 3), branch(&[0, 1]), idle(), looped(1, 3, 0, 3), sequence(&[0, 1]), sequence(&[1, 4]), plain(7, 7)];
     task(small_bus(), &[4], (&nodes, 0), (8, 8), &[(2, 8)]);
     task(small_bus(), &[4], (&nodes, 1), (3, 3), &[(7, 3)]);
     task(small_bus(), &[4], (&nodes, 2), (8, 8), &[(2, 8), (7, 3)]);
-    task(small_bus(), &[4], (&nodes, 3), (18, 18), &[(2, 18), (4, 10)]);
-    task(small_bus(), &[4], (&nodes, 4), (11, 11), &[(5, 11)]);
-    task(small_bus(), &[4], (&nodes, 5), (18, 18), &[(2, 18), (4, 10)]);
-    task(small_bus(), &[4], (&nodes, 6), (7, 7), &[(1, 7)]);
+    task(small_bus(), &[4], (&nodes, 3), (0, 0), &[(4, 0)]);
+    task(small_bus(), &[4], (&nodes, 4), (18, 18), &[(2, 18), (4, 10)]);
+    task(small_bus(), &[4], (&nodes, 5), (11, 11), &[(5, 11)]);
+    task(small_bus(), &[4], (&nodes, 6), (18, 18), &[(2, 18), (4, 10)]);
+    task(small_bus(), &[4], (&nodes, 7), (7, 7), &[(1, 7)]);
     // "A2 twice from {3, 5}", its entry below others that use it
-    let twice = [a2(), sequence(&[0, 0]), sequence(&[1, 1]), looped(1, 10_000, 2)];
+    let twice = [a2(), sequence(&[0, 0]), sequence(&[1, 1]), looped(1, 10_000, 2, 1)];
     task(small_bus(), &[3, 5], (&twice, 1), (9, 14), &[(2, 9), (4, 9)]);
     task(small_bus(), &[3, 5], (&twice, 0), (7, 7), &[(2, 7), (5, 2)]);
     // one node, which is the first and the last
     task(small_bus(), &[4], (&[a2()], 0), (8, 8), &[(2, 8)]);
     // "Loop, counts 0 to 0, from {4}: exit 4, both figures 0."
-    task(small_bus(), &[4], (&[a2(), looped(0, 0, 0), looped(1, 1, 0)], 1), (0, 0), &[(4, 0)]);
+    task(small_bus(), &[4], (&[a2(), idle(), looped(0, 0, 0, 1), looped(1, 1, 0, 1)], 2), (0, 0), &[(4, 0)]);
     // the number's low byte: each node k of 256 is plain k, from {0}
     let each: Vec<Vec<u8>> = (0..256).map(|own| plain(own, own)).collect();
     for number in (0..=255).step_by(17).chain([1, 127, 128, 129, 254]) {
@@ -1100,16 +1140,24 @@ pub fn worked_entries(cases: &mut Cases) {
     let deep = [tower(a2(), 24, &|below| sequence(&[below])), vec![plain(1, 1)]].concat();
     add(small_bus(), &deep, 24, line(&format!("refused 8 {}", 6 + 4 + 6 + 24 * 5 + 7 + 5)));
     add(small_bus(), &deep, 25, line("tight 1\npublished 1\nexits 1\n1 1"));
-    // "A loop of 10,000 over a block, inside a loop of 9: 90,010 visits, accepted. Inside a loop of 10: 100,011, gives 9."
-    let inside = [plain(10, 10), looped(10_000, 10_000, 0), looped(9, 9, 1), looped(10, 10, 1), looped(2, 2, 3), plain(1, 1)];
-    let (refused, length) = (|length: usize| line(&format!("refused 9 {length}")), 6 + 4 + 7 + 4 * 9 + 5);
-    add(small_bus(), &inside[..5], 1, line("tight 100000\npublished 100000\nexits 1\n0 100000"));
-    add(small_bus(), &inside[..5], 2, line("tight 900000\npublished 900000\nexits 1\n0 900000"));
-    add(small_bus(), &inside[..5], 3, refused(length));
-    add(small_bus(), &inside[..5], 4, refused(length));
+    // a loop of 10,000 over a block: 20,002 visits, inside a loop of 4: 80,014, inside a loop of 5: 100,017
+    let inside = [
+        plain(10, 10),
+        idle(),
+        looped(10_000, 10_000, 0, 1),
+        looped(4, 4, 2, 1),
+        looped(5, 5, 2, 1),
+        looped(2, 2, 4, 1),
+        plain(1, 1),
+    ];
+    let (refused, length) = (|length: usize| line(&format!("refused 9 {length}")), 6 + 4 + 7 + 7 + 4 * 11 + 5);
+    add(small_bus(), &inside[..6], 2, line("tight 100000\npublished 100000\nexits 1\n0 100000"));
+    add(small_bus(), &inside[..6], 3, line("tight 400000\npublished 400000\nexits 1\n0 400000"));
+    add(small_bus(), &inside[..6], 4, refused(length));
+    add(small_bus(), &inside[..6], 5, refused(length));
     // the one named is too long, and the last is not
-    add(small_bus(), &inside, 3, refused(length + 7));
-    add(small_bus(), &inside, 5, line("tight 1\npublished 1\nexits 1\n1 1"));
+    add(small_bus(), &inside, 4, refused(length + 7));
+    add(small_bus(), &inside, 6, line("tight 1\npublished 1\nexits 1\n1 1"));
     // 65 × 16 = 1,040
     add(bus(5, 13, 0), &above, 0, line("refused 18 37"));
     add(bus(5, 13, 0), &above, 1, line("refused 18 37"));
@@ -1167,7 +1215,7 @@ pub fn limits_of_entries(cases: &mut Cases) {
             add([behind.clone(), vec![tag]].concat(), at(1, place + 5));
             add([behind.clone(), vec![tag, 0]].concat(), at(1, place + 5));
         }
-        for field in [a2(), fetch(0, 1, 1, 1), sequence(&[0]), branch(&[0, 0]), looped(1, 1, 0), small_bus(), starts(&[0])] {
+        for field in [a2(), fetch(0, 1, 1, 1), sequence(&[0]), branch(&[0, 0]), looped(1, 1, 0, 0), small_bus(), starts(&[0])] {
             add([behind.clone(), field.clone()].concat(), at(2, place + 5));
             add([behind.clone(), field, entry(0)].concat(), at(2, place + 5));
         }
@@ -1205,7 +1253,7 @@ pub fn limits_of_entries(cases: &mut Cases) {
         }
         // between nodes: what follows is at fault
         let between = [&opening[..], &plain(1, 1), &entry(0)].concat();
-        for node in [plain(1, 1), a2(), sequence(&[0]), looped(0, 1, 0)] {
+        for node in [plain(1, 1), a2(), sequence(&[0]), looped(0, 1, 0, 0)] {
             add([between.clone(), node.clone()].concat(), at(2, between.len()));
             add([between.clone(), node, entry(1)].concat(), at(2, between.len()));
         }
@@ -1223,10 +1271,12 @@ pub fn limits_of_entries(cases: &mut Cases) {
         (5, bus_block(2, 1, 6)),
         (5, bus_block(3, 1, 1)),
         (5, fetch(4, 1, 1, 1)),
-        (5, looped(2, 1, 0)),
+        (4, field(7, &[0, 0, 0, 1, 0, 0])),
+        (5, looped(2, 1, 0, 0)),
         (6, sequence(&[1])),
         (6, branch(&[0, 1])),
-        (6, looped(0, 0, 1)),
+        (6, looped(0, 0, 1, 0)),
+        (6, looped(0, 0, 0, 1)),
         (6, sequence(&[0, 65_535])),
     ] {
         for named in [0, 1, 2] {
@@ -1236,10 +1286,11 @@ pub fn limits_of_entries(cases: &mut Cases) {
     add(with(&one, vec![3, 0, 4, 0, 0, 8]), at(1, place));
 
     // every kind of node is an entry, first, in the middle and last; all of them stand above each other
-    let kinds = [a2(), plain(2, 5), bus_block(1, 1, 3), fetch(2, 1, 2, 9), sequence(&[0, 1]), branch(&[2, 3]), looped(0, 2, 5)];
+    let kinds =
+        [a2(), plain(2, 5), bus_block(1, 1, 3), fetch(2, 1, 2, 9), sequence(&[0, 1]), branch(&[2, 3]), looped(0, 2, 5, 1)];
     for opening in &openings {
         for number in 0..8 {
-            let expected = if number < 7 { Accepted } else { at(11, opening.len() + 6 + 7 + 6 + 8 + 7 + 7 + 9) };
+            let expected = if number < 7 { Accepted } else { at(11, opening.len() + 6 + 7 + 6 + 8 + 7 + 7 + 11) };
             add([opening.clone(), kinds.concat(), entry(number)].concat(), expected);
         }
     }
@@ -1260,7 +1311,9 @@ pub fn limits_of_entries(cases: &mut Cases) {
             let placed = |number: u64, nodes: &[Vec<u8>]| at(number, opening.len() + nodes.concat().len() + 5);
             let deep = tower(a2(), levels, &|below| sequence(&[below]));
             add(&deep, named, if named <= 23 { Accepted } else { placed(8, &deep) });
-            let deep = tower(a2(), levels, &|below| looped(0, 1, below));
+            let deep = tower(a2(), levels, &|below| looped(0, 1, below, 0));
+            add(&deep, named, if named <= 23 { Accepted } else { placed(8, &deep) });
+            let deep = tower(a2(), levels, &|below| looped(0, 0, 0, below));
             add(&deep, named, if named <= 23 { Accepted } else { placed(8, &deep) });
             let long = tower(a2(), levels, &|below| branch(&[below, below]));
             let expected = match named {
@@ -1275,17 +1328,383 @@ pub fn limits_of_entries(cases: &mut Cases) {
             add(&deep, named, if named <= 23 || named == levels { Accepted } else { placed(8, &deep) });
         }
     }
-    for visits in [99_999, 100_000, 100_001, 1 << 32, 1 << 64] {
+    for visits in [99_997, 99_999, 100_000, 100_001, 1 << 32, 1 << 64] {
         let mut nodes = with_visits(visits);
         let last = nodes.len() as u16 - 1;
         for named in [0, 1, last] {
             add(&nodes, named, if named < last || visits <= 100_000 { Accepted } else { Refused(9) });
         }
-        nodes.push(looped(0, 0, last));
-        nodes.push(looped(1, 1, last));
+        // 2, visits + 3 and visits + 1
+        nodes.extend([looped(0, 0, last, 0), looped(1, 1, last, 0), looped(0, 0, 0, last)]);
         add(&nodes, last, either(visits <= 100_000, 9));
         add(&nodes, last + 1, Accepted);
-        add(&nodes, last + 2, either(visits < 100_000, 9));
+        add(&nodes, last + 2, either(visits + 3 <= 100_000, 9));
+        add(&nodes, last + 3, either(visits < 100_000, 9));
+    }
+}
+
+/// Loops tested at the head, change request W3: tasks with what `figure` writes for them, worked out here. Cores 2, slot 5, core 0, P = 10,
+/// unless said; A1 and A2 are always-access blocks of durations 1 and 2. An access of 2 waits 0 from 0 to 3, and 10 − o from an offset o
+/// above.
+pub fn worked_tests(cases: &mut Cases) {
+    let mut add = |image: Vec<u8>, figures: (u64, u64), exits: &[(u64, u64)]| {
+        cases.add("worked tests", image, listing(figures, exits));
+    };
+    let mut task = |field_1: Vec<u8>, from: &[u8], nodes: &[Vec<u8>], figures: (u64, u64), exits: &[(u64, u64)]| {
+        add([field_1, starts(from), nodes.concat()].concat(), figures, exits);
+    };
+    let mut small =
+        |from: &[u8], nodes: &[Vec<u8>], times: (u64, u64), exits: &[(u64, u64)]| task(small_bus(), from, nodes, times, exits);
+    let one = || plain(1, 1);
+
+    // a test that accesses: A2, with plain 1 as body, from {4}. The test: 2 after 8. Then plain 1 and the test: 3 after 9, 5 after 11. Again:
+    // 6 after 12, 2 after 18. "a count of 0 still executes it once". Published: 8, and 1 + 2, and 1 + 6.
+    let accesses = |least, greatest| [a2(), one(), looped(least, greatest, 1, 0)];
+    small(&[4], &accesses(0, 0), (8, 8), &[(2, 8)]);
+    small(&[4], &accesses(0, 1), (11, 11), &[(2, 8), (5, 11)]);
+    small(&[4], &accesses(1, 1), (11, 11), &[(5, 11)]);
+    small(&[4], &accesses(0, 2), (18, 18), &[(2, 18), (5, 11)]);
+    small(&[4], &accesses(2, 2), (18, 18), &[(2, 18)]);
+    // the other way round, A2 as body and plain 1 as test, from {4}: 5 after 1; 2 after 8, 3 after 9; 5 after 11, 6 after 12. Published: 1,
+    // and 7 + 1, and 2 + 1.
+    let other = |least, greatest| [a2(), one(), looped(least, greatest, 0, 1)];
+    small(&[4], &other(0, 0), (1, 1), &[(5, 1)]);
+    small(&[4], &other(0, 1), (9, 9), &[(3, 9), (5, 1)]);
+    small(&[4], &other(0, 2), (12, 12), &[(3, 9), (5, 1), (6, 12)]);
+    small(&[4], &other(1, 2), (12, 12), &[(3, 9), (6, 12)]);
+    // A1 as test, plain 1 as body, from {0}: 1 after 1, 3 after 3, 5 after 5; then from 6 a wait of 4: 1 after 11
+    let steps = |least, greatest| [bus_block(2, 1, 1), one(), looped(least, greatest, 1, 0)];
+    small(&[0], &steps(0, 2), (5, 5), &[(1, 1), (3, 3), (5, 5)]);
+    small(&[0], &steps(1, 2), (5, 5), &[(3, 3), (5, 5)]);
+    small(&[0], &steps(2, 2), (5, 5), &[(5, 5)]);
+    small(&[0], &steps(0, 3), (11, 11), &[(1, 11), (3, 3), (5, 5)]);
+    small(&[0], &steps(1, 3), (11, 11), &[(1, 11), (3, 3), (5, 5)]);
+    small(&[0], &steps(3, 3), (11, 11), &[(1, 11)]);
+    // "A2 twice from {3, 5}": as the test before and after a body of no cycles
+    small(&[3, 5], &[a2(), idle(), looped(1, 1, 1, 0)], (9, 14), &[(2, 9), (4, 9)]);
+    // "May access, duration 2, from {4}: exits 6 after 2, 2 after 8.": the test of a loop of no iterations
+    small(&[4], &[bus_block(1, 2, 2), one(), looped(0, 0, 1, 0)], (8, 8), &[(2, 8), (6, 2)]);
+
+    // a test of two durations, plain 0 to 1, with plain 2 as body, from {0}: 0 after 0, 1 after 1. Then 2 after 2 and 3 after 3, and with the
+    // test 2 to 4 after 2 to 4: "Every choice is open again at each execution". Published: 1 + 2 + 1.
+    let durations = |least, greatest| [plain(0, 1), plain(2, 2), looped(least, greatest, 1, 0)];
+    small(&[0], &durations(0, 0), (1, 1), &[(0, 0), (1, 1)]);
+    small(&[0], &durations(1, 1), (4, 4), &[(2, 2), (3, 3), (4, 4)]);
+    small(&[0], &durations(0, 1), (4, 4), &[(0, 0), (1, 1), (2, 2), (3, 3), (4, 4)]);
+    // an access of 1 to 2 cycles, with a body of no cycles, from {3}: 4 after 1, 5 after 2. Again, from 4: 5 after 2, 2 after 9; from 5: 1
+    // after 8, 2 after 9. Published: 2, and from {4, 5} 8.
+    let ranged = |count| [bus_block(2, 1, 2), idle(), looped(count, count, 1, 0)];
+    small(&[3], &ranged(0), (2, 2), &[(4, 1), (5, 2)]);
+    small(&[3], &ranged(1), (9, 10), &[(1, 8), (2, 9), (5, 2)]);
+
+    // a test that is the body: A2 once, 3 times, 5 times, from {4}: 2 after 8, 4 after 10, 2 after 18, 4 after 20, 2 after 28
+    let same = |least, greatest| [a2(), looped(least, greatest, 0, 0)];
+    small(&[4], &same(0, 0), (8, 8), &[(2, 8)]);
+    small(&[4], &same(1, 1), (18, 18), &[(2, 18)]);
+    small(&[4], &same(0, 2), (28, 28), &[(2, 28)]);
+    // plain 3, from {0}: 3, 9, 15
+    small(&[0], &[plain(3, 3), looped(0, 2, 0, 0)], (15, 15), &[(3, 3), (5, 15), (9, 9)]);
+    // and around that a loop with another test
+    small(&[0], &[one(), plain(3, 3), looped(0, 1, 1, 1), looped(1, 1, 2, 0)], (11, 11), &[(1, 11), (5, 5)]);
+
+    // a test that fetches a line, of 2 cycles and with a hit of 1, and plain 3 as body, from {4}: 2 after 8; 5 after 11, a hit: 6 after 12;
+    // 9 after 15, a hit: 0 after 16. Published: 8, ends at {2, 5}; 3, {5, 8}; 7, ends at {2, 6, 9}; 3, {2, 5, 9}; 7.
+    let fetched = |least, greatest| [fetch(0, 2, 2, 1), plain(3, 3), looped(least, greatest, 1, 0)];
+    small(&[4], &fetched(0, 0), (8, 8), &[(2, 8)]);
+    small(&[4], &fetched(1, 1), (12, 18), &[(6, 12)]);
+    small(&[4], &fetched(0, 2), (16, 28), &[(0, 16), (2, 8), (6, 12)]);
+    // the body has the line too, of 3 cycles and with a hit of 5, from {0}: the test accesses, 2 after 2; then hits: 7 after 7, 8 after 8.
+    // Published: 2, ends at {1, 2}; 5, ends at {4, 5, 6, 7}; from 4 8.
+    small(&[0], &[fetch(0, 2, 2, 1), fetch(0, 3, 3, 5), looped(1, 1, 1, 0)], (8, 15), &[(8, 8)]);
+    // another line: 2 after 2, 5 after 5, and a hit: 6 after 6. Published the same.
+    small(&[0], &[fetch(0, 2, 2, 1), fetch(1, 3, 3, 5), looped(1, 1, 1, 0)], (6, 15), &[(6, 6)]);
+    // what the test of a loop of no iterations fetches is known behind it, from {4}: 2 after 8, 3 after 9. Published: 8, and from {2, 5} 7.
+    let behind = [fetch(0, 2, 2, 1), idle(), looped(0, 0, 1, 0), sequence(&[2, 0])];
+    small(&[4], &behind, (9, 15), &[(3, 9)]);
+    // what is fetched before it is known in the test: 2 after 8, 3 after 9
+    small(&[4], &[fetch(0, 2, 2, 1), idle(), looped(0, 0, 1, 0), sequence(&[0, 2])], (9, 15), &[(3, 9)]);
+    // the test is a branch of plain 0 and a block of the line with a hit of 9, so that the body may be the first to fetch it, from {0}: 0
+    // after 0 without it, 2 after 2 with it; then 2 after 2, or a hit: 3 after 3; then nothing, or a hit: 1 after 11, 2 after 12.
+    // Published: 9, ends at {0, 2, 9}; 3, from 9, ends at {0, 1, 2, 3, 4}; 9.
+    let in_body = [fetch(0, 2, 2, 1), fetch(0, 2, 2, 9), idle(), branch(&[2, 1]), looped(1, 1, 0, 3)];
+    small(&[0], &in_body, (12, 21), &[(1, 11), (2, 12), (3, 3)]);
+
+    // a test that is a branch of A2 and plain 1, and plain 1 as body, from {3}: 5 after 2, 4 after 1. Then 6 after 3, 5 after 2; the test
+    // again, from 6: 2 after 9, 7 after 4; from 5: 2 after 9, 6 after 3. Published: 2 + 1 + 7.
+    let branched = |least| [a2(), one(), branch(&[0, 1]), looped(least, 1, 1, 2)];
+    small(&[3], &branched(0), (9, 10), &[(2, 9), (4, 1), (5, 2), (6, 3), (7, 4)]);
+    small(&[3], &branched(1), (9, 10), &[(2, 9), (6, 3), (7, 4)]);
+    // a sequence of A2 and plain 2, twice around plain 4, from {3}: 7 after 4; 1 after 8; 3 after 10, 5 after 12
+    small(&[3], &[a2(), plain(2, 2), sequence(&[0, 1]), plain(4, 4), looped(1, 1, 3, 2)], (12, 12), &[(5, 12)]);
+    // a loop of plain 1, 1 or 2 times, twice around plain 3, from {0}: 1 or 2, 3, and 1 or 2
+    small(&[0], &[one(), idle(), looped(1, 2, 0, 1), plain(3, 3), looped(1, 1, 3, 2)], (7, 7), &[(5, 5), (6, 6), (7, 7)]);
+    // a loop of A2, none or once, which has plain 1 as test, and is the test around plain 2, from {3}. The inner one: 4 after 1, or then 2
+    // after 9 and 3 after 10. Plain 2: 6 after 3, or 5 after 12. The inner one from 6: 7 after 4, or then 2 after 9, 3 after 10; from 5: 6
+    // after 13, or then 2 after 19, 3 after 20. Published: 1 + 8 + 1; 2; from {5, 6} 1 + 6 + 1.
+    let inner = [a2(), one(), looped(0, 1, 0, 1), plain(2, 2), looped(0, 1, 3, 2)];
+    small(&[3], &inner, (20, 20), &[(3, 20), (4, 1), (6, 13), (7, 4)]);
+
+    // tests of nested loops: the inner one twice a body of no cycles and 3 times plain 1, the outer one twice that and 3 times plain 10
+    let nested = [idle(), one(), plain(10, 10), looped(2, 2, 0, 1), looped(2, 2, 3, 2)];
+    small(&[0], &nested, (36, 36), &[(6, 36)]);
+    // both have the same test: 2 × 3 + 3; each has the other's: 2 × 3 × 10 + 3 × 1
+    small(&[0], &[idle(), one(), looped(2, 2, 0, 1), looped(2, 2, 2, 1)], (9, 9), &[(9, 9)]);
+    small(&[0], &[idle(), one(), plain(10, 10), looped(2, 2, 0, 2), looped(2, 2, 3, 1)], (63, 63), &[(3, 63)]);
+    // three of them, 0 or 1 time each, with plain 1 as test: the innermost takes 1 or 2 + 4, the next 1 or 2 more than that, the outermost 1
+    // or 2 more than that: 1, 3, 5, 10
+    let three = [plain(4, 4), one(), looped(0, 1, 0, 1), looped(0, 1, 2, 1), looped(0, 1, 3, 1)];
+    small(&[0], &three, (10, 10), &[(0, 10), (1, 1), (3, 3), (5, 5)]);
+    // no iteration outside: the inner one is not executed, nor its tests
+    small(&[4], &[a2(), one(), looped(3, 3, 0, 1), looped(0, 0, 2, 1)], (1, 1), &[(5, 1)]);
+
+    // the exits lead on: plain 4 as test, plain 1 as body, none or once, then A2, from {0}: 4 after 4 or 9 after 9; from both 2 after 12.
+    // Published: 9, and from {4, 9} 8.
+    small(&[0], &[a2(), one(), plain(4, 4), looped(0, 1, 1, 2), sequence(&[3, 0])], (12, 17), &[(2, 12)]);
+    // plain 1 as test, from {3}, then A2: 4 after 1, 2 after 9. Published: 1, and from 4 8.
+    small(&[3], &[a2(), one(), looped(0, 0, 0, 1), sequence(&[2, 0])], (9, 9), &[(2, 9)]);
+    // the whole exit set goes on: plain 0 to 1, then A2 as test around plain 1, from {3}: 3 after 0 and 4 after 1; 5 after 2 and 2 after 9; 6
+    // after 3 and 3 after 10; 2 after 9 and 5 after 12. Published: 1; 8, ends at {2, 5}; 1; from {3, 6} 6.
+    let whole = [a2(), one(), plain(0, 1), looped(1, 1, 1, 0), sequence(&[2, 3])];
+    small(&[3], &whole, (12, 16), &[(2, 9), (5, 12)]);
+
+    // long ones: 10,000 × 1 + 10,001 × 2, and with the numbers exchanged 10,000 × 2 + 10,001 × 1; a test of 65,535 alone
+    small(&[0], &[one(), plain(2, 2), looped(10_000, 10_000, 0, 1)], (30_002, 30_002), &[(2, 30_002)]);
+    small(&[0], &[one(), plain(2, 2), looped(10_000, 10_000, 1, 0)], (30_001, 30_001), &[(1, 30_001)]);
+    small(&[0], &[plain(65_535, 65_535), one(), looped(0, 0, 1, 0)], (65_535, 65_535), &[(5, 65_535)]);
+
+    // core 1, A2 as test around plain 1, from {9}: a wait of 6, 7 after 8; 8 after 9; 0 after 11
+    task(bus(2, 5, 1), &[9], &accesses(1, 1), (11, 11), &[(0, 11)]);
+    // slots of unequal length, core 0 owns 0 to 2, and 5 and 6: from {4} 7 after 3; 8 after 4, and with a wait of 2: 2 after 8
+    task(two_slots(0), &[4], &accesses(0, 1), (8, 8), &[(2, 8), (7, 3)]);
+    // fetched once, 3 cycles, a hit of 2, around plain 1, from {5}: a wait of 5, 3 after 8; 4 after 9; 6 after 11. Published: 8, ends at {3,
+    // 7}; 1; from 4 a wait of 6 and 3.
+    task(two_slots(0), &[5], &[fetch(0, 3, 3, 2), one(), looped(1, 1, 1, 0)], (11, 18), &[(6, 11)]);
+    // a period of 1
+    task(schedule(0, &[(0, 1)]), &[0], &[bus_block(2, 1, 1), looped(0, 7, 0, 0)], (15, 15), &[(0, 15)]);
+    // 4 lines and 64 × 16 = 1,024, the highest of them in a test alone: from {0} 2 after 2
+    task(bus(4, 16, 0), &[0], &[fetch(3, 2, 2, 1), idle(), looped(0, 0, 1, 0)], (2, 2), &[(2, 2)]);
+
+    // the entry named: the loop with a test that accesses, below one of which it is the body, and one of which it is the test
+    let mut named = |nodes: &[Vec<u8>], number: u16, times: (u64, u64), exits: &[(u64, u64)]| {
+        add([small_bus(), starts(&[4]), nodes.concat(), entry(number)].concat(), times, exits);
+    };
+    let above = [&accesses(0, 1)[..], &[looped(5, 5, 2, 1), looped(0, 0, 1, 2), looped(1, 1, 2, 2)]].concat();
+    named(&above, 2, (11, 11), &[(2, 8), (5, 11)]);
+    named(&above, 4, (11, 11), &[(2, 8), (5, 11)]);
+    named(&above, 0, (8, 8), &[(2, 8)]);
+    named(&above, 1, (1, 1), &[(5, 1)]);
+}
+
+/// "Tag 7 now has body length 8: least, greatest, body, and the child number of a test node." 5 before 6, for both child numbers.
+pub fn limits_of_tests(cases: &mut Cases) {
+    let mut add = |image: Vec<u8>, expected: Expected| cases.add("limits of tests", image, expected);
+    let at = |number: u64, place: usize| line(&format!("refused {number} {place}"));
+    let openings = [[small_bus(), starts(&[0, 4])].concat(), [two_slots(0), starts(&[0, 4])].concat()];
+
+    for opening in &openings {
+        let begun = [&opening[..], &plain(3, 3), &a2()].concat();
+        let place = begun.len();
+        // lengths, with a body of that many bytes, which begins like that of a good loop, alone and before another node; and with none
+        for length in (0..=12).chain([14, 16, 255, 256, 262, 264, 520, 2_048]) {
+            let mut body = vec![0, 0, 0, 1, 0, 0, 0, 1];
+            body.resize(length, 0);
+            let image = [begun.clone(), field(7, &body)].concat();
+            let expected = || if length == 8 { Accepted } else { at(4, place) };
+            add(image.clone(), expected());
+            add([image.clone(), plain(1, 1)].concat(), expected());
+            add([image, sequence(&[2])].concat(), expected());
+            add([begun.clone(), field(7, &body)[..3].to_vec()].concat(), at(if length == 8 { 1 } else { 4 }, place));
+        }
+        add([&begun[..], &[7, 255, 255]].concat(), at(4, place));
+        // a length of 6 with 8 bytes, of 8 with 6, and of 8 with two bytes of the next field
+        add([&begun[..], &[7, 0, 6, 0, 0, 0, 1, 0, 0, 0, 1]].concat(), at(4, place));
+        add([&begun[..], &[7, 0, 8, 0, 0, 0, 1, 0, 0]].concat(), at(1, place));
+        add([&begun[..], &[7, 0, 8, 0, 0, 0, 1, 0, 0], &plain(1, 1)].concat(), at(6, place));
+        // cut at each byte, with good numbers, with a 5 and with a 6
+        for node in [looped(0, 1, 0, 1), looped(1, 0, 0, 1), looped(0, 1, 2, 1), looped(0, 1, 0, 2), looped(9, 8, 9, 9)] {
+            for left in 1..node.len() {
+                add([&begun[..], &node[..left]].concat(), at(1, place));
+            }
+        }
+        // 5 before 6: least and greatest, then body and test
+        for (least, greatest) in [(0, 0), (0, 2), (1, 1), (1, 0), (10_000, 10_000), (0, 10_001), (65_535, 65_535)] {
+            for (body, test) in [0, 1, 2, 3].into_iter().flat_map(|body| [0, 1, 2, 257, 65_535].map(|test| (body, test))) {
+                let expected = if least > greatest || greatest > 10_000 {
+                    at(5, place)
+                } else if body >= 2 || test >= 2 {
+                    at(6, place)
+                } else {
+                    Accepted
+                };
+                add([&begun[..], &looped(least, greatest, body, test)].concat(), expected);
+            }
+        }
+        // a loop is no first node
+        for node in [looped(0, 0, 0, 0), looped(0, 1, 0, 1), looped(0, 0, 65_535, 0)] {
+            add([opening.clone(), node].concat(), at(6, opening.len()));
+        }
+        add([opening.clone(), looped(1, 0, 0, 0)].concat(), at(5, opening.len()));
+        // one that the entry does not reach, and one above the entry
+        for (number, node) in [
+            (4, field(7, &[0, 0, 0, 1, 0, 0])),
+            (5, looped(1, 0, 0, 0)),
+            (6, looped(0, 0, 0, 2)),
+            (6, looped(0, 0, 2, 0)),
+            (6, looped(0, 1, 0, 256)),
+        ] {
+            add([&begun[..], &node, &plain(1, 1)].concat(), at(number, place));
+            add([&begun[..], &node, &entry(0)].concat(), at(number, place));
+            // what is wrong in it goes before what is wrong behind it
+            for later in [vec![3], field(9, &[]), field(7, &[0; 6]), plain(1, 0), sequence(&[9])] {
+                add([&begun[..], &node, &later].concat(), at(number, place));
+            }
+        }
+        // a test that stands behind it
+        add([&begun[..], &looped(0, 1, 0, 3), &plain(1, 1)].concat(), at(6, place));
+        add([&begun[..], &looped(0, 1, 3, 0), &plain(1, 1), &entry(2)].concat(), at(6, place));
+    }
+
+    // both numbers on both sides of the own one, and what a byte would make of them
+    for own in [1u16, 2, 3, 128, 254, 255] {
+        let before = [&openings[0][..], &blank_nodes(own.into())].concat();
+        let numbers = [0, own / 2, own - 1, own, own + 1, 255, 256, 256 + own - 1, 512, 32_768, 65_280, 65_535];
+        for number in numbers {
+            for node in
+                [looped(0, 1, number, 0), looped(0, 1, 0, number), looped(0, 0, own - 1, number), looped(0, 0, number, own - 1)]
+            {
+                add([&before[..], &node].concat(), if number < own { Accepted } else { at(6, before.len()) });
+            }
+        }
+    }
+    // a node's own duration shows which is the test, and which the body: node k is plain k, and from {0} the test is executed 3 times
+    let each: Vec<u8> = (0..255).flat_map(|own| plain(own, own)).collect();
+    for (body, test) in
+        [(0, 0), (0, 1), (1, 0), (3, 200), (200, 3), (127, 128), (128, 127), (254, 0), (0, 254), (254, 253), (16, 254)]
+    {
+        let time = 2 * u64::from(body) + 3 * u64::from(test);
+        let image = [small_bus(), starts(&[0]), each.clone(), looped(2, 2, body, test)].concat();
+        add(image, listing((time, time), &[(time % 10, time)]));
+    }
+    // every kind of node is a test, and every kind a body; all of them stand above each other
+    let kinds =
+        [a2(), plain(2, 5), bus_block(1, 1, 3), fetch(2, 1, 2, 9), sequence(&[0, 1]), branch(&[2, 3]), looped(0, 1, 0, 1)];
+    for opening in &openings {
+        for (kind, other) in (0..7).flat_map(|kind| [1, 3].map(|other| (kind, other))) {
+            for (least, greatest) in [(0, 0), (0, 1), (2, 2)] {
+                add([opening.clone(), kinds.concat(), looped(least, greatest, other, kind)].concat(), Accepted);
+                add([opening.clone(), kinds.concat(), looped(least, greatest, kind, other)].concat(), Accepted);
+            }
+        }
+    }
+}
+
+/// "Visits become 1 + greatest × (body + test) + test; depth counts the test as a child."
+pub fn visits_of_tests(cases: &mut Cases) {
+    let mut add = |nodes: &[Vec<u8>], expected: Expected| {
+        cases.add("visits of tests", [small_bus(), starts(&[4]), nodes.concat()].concat(), expected);
+    };
+    // a loop whose body and test have so many visits; it is the last node
+    let with = |greatest: u16, body: u128, test: u128| {
+        let mut nodes = vec![plain(1, 1)];
+        let body = add_visits(&mut nodes, body);
+        let test = add_visits(&mut nodes, test);
+        nodes.push(looped(greatest / 2, greatest, body, test));
+        nodes
+    };
+    let formula = |greatest: u16, body: u128, test: u128| 1 + u128::from(greatest) * (body + test) + test;
+    // on both sides of 100,000, by the body and by the test, and with both exchanged
+    for greatest in [1, 3, 100, 10_000] {
+        for few in [1, 5] {
+            let times = u128::from(greatest);
+            // the body: few are the visits of the test; and the other way round
+            let body = (99_999 - few) / times - few;
+            let test = (99_999 - times * few) / (times + 1);
+            for (body, test) in [(body, few), (body + 1, few), (few, test), (few, test + 1), (test, few)] {
+                add(&with(greatest, body, test), either(formula(greatest, body, test) <= 100_000, 9));
+            }
+        }
+    }
+    // exactly 100,000, one less and one more; a sequence of it has one more
+    for (greatest, body, test) in
+        [(3, 1, 24_999), (3, 2, 24_998), (3, 33_329, 3), (3, 33_328, 4), (9, 1, 9_999), (9, 11_101, 9), (9, 11_011, 90)]
+    {
+        let visits = formula(greatest, body, test);
+        add(&with(greatest, body, test), either(visits <= 100_000, 9));
+        let mut nodes = with(greatest, body, test);
+        nodes.push(sequence(&[nodes.len() as u16 - 1]));
+        add(&nodes, either(visits < 100_000, 9));
+    }
+    for test in [99_997, 99_998, 99_999, 100_000, 100_001] {
+        add(&with(0, 1, test), either(test < 100_000, 9));
+        add(&with(0, 1 << 70, test), either(test < 100_000, 9));
+    }
+    // "With greatest 0" an enormous body counts nothing, an enormous test does; nor does the body in a loop inside
+    for enormous in
+        [100_000, 100_001, 1 << 16, 1 << 32, (1 << 32) + 1, 1 << 40, 1 << 63, (1 << 64) - 2, (1 << 64) - 1, 1 << 64, 1 << 80]
+    {
+        add(&with(0, enormous, 1), Accepted);
+        add(&with(0, enormous, 500), Accepted);
+        add(&with(0, 1, enormous), either(enormous < 100_000, 9));
+        add(&with(0, enormous, enormous), either(enormous < 100_000, 9));
+        add(&with(1, enormous, 1), either(enormous + 3 <= 100_000, 9));
+        let mut nodes = with(0, enormous, 1);
+        let last = nodes.len() as u16 - 1;
+        // 1 + 100 × (2 + 1) + 1, and 1 + 100 × (1 + 2) + 2
+        nodes.extend([looped(0, 100, last, 0), looped(0, 100, 0, last)]);
+        add(&nodes, Accepted);
+        nodes.push(looped(1, 1, last + 1, last + 2));
+        add(&nodes, Accepted);
+    }
+    // what 16, 32 and 64 bits would lose: of the test twice, of the sum, of the product, of the last test
+    for bits in [16, 32, 64] {
+        let whole = 1u128 << bits;
+        for more in [0, 5] {
+            for (greatest, body, test) in [
+                (1, 1 + more, whole / 2),
+                (1, whole - 3 + more, 1),
+                (5, whole - 1 + more, 3),
+                (7, 3, whole - 3 + more),
+                (10_000, whole / 16 - 1, 1),
+                (10_000, whole / 16 + more, 1),
+                (2, whole / 4, whole / 4),
+                (3, whole / 4, whole / 4 + more),
+                (0, 7, whole - 1 + more),
+            ] {
+                add(&with(greatest, body, test), either(formula(greatest, body, test) <= 100_000, 9));
+            }
+        }
+    }
+    // a tower of loops that are each other's tests, 10,000 times each, reached and not
+    for levels in [2u16, 5, 20] {
+        let mut nodes = tower(plain(5, 5), levels, &|below| looped(0, 10_000, 0, below));
+        add(&nodes, Refused(9));
+        nodes.push(looped(0, 0, levels, 0));
+        add(&nodes, Accepted);
+        nodes.push(looped(0, 0, 0, levels));
+        add(&nodes, Refused(9));
+        nodes.push(plain(2, 9));
+        add(&nodes, Accepted);
+    }
+    // depth: a deep test beside a block, a deep body beside a block, and both
+    for levels in [21, 22, 23, 24] {
+        let deep = || tower(a2(), levels, &|below| sequence(&[below]));
+        for (body, test) in [(0, levels), (levels, 0), (levels, levels), (levels - 1, levels), (levels, levels - 1)] {
+            for greatest in [0, 1, 3] {
+                let mut nodes = deep();
+                nodes.push(looped(0, greatest, body, test));
+                add(&nodes, either(levels <= 22, 8));
+            }
+        }
+        // one node more above it
+        for above in [sequence(&[levels + 1]), looped(0, 0, levels + 1, 0), looped(0, 0, 0, levels + 1)] {
+            let mut nodes = deep();
+            nodes.extend([looped(0, 0, 0, levels), above]);
+            add(&nodes, either(levels <= 21, 8));
+        }
+        // 8 before 9
+        let mut nodes = deep();
+        nodes.extend([looped(0, 10_000, levels, 0), looped(0, 10_000, 0, levels + 1)]);
+        add(&nodes, Refused(if levels <= 21 { 9 } else { 8 }));
     }
 }
 
@@ -1334,14 +1753,19 @@ pub fn order(cases: &mut Cases) {
     add(vec![3, 0, 4, 9, 0, 0], 1);
     add(vec![4, 0, 3, 9], 1);
     add(vec![5, 0, 4, 9, 9], 1);
-    add(vec![7, 0, 6, 9, 9, 0, 0, 9], 1);
+    add(vec![7, 0, 8, 9, 9, 0, 0, 9], 1);
+    add(vec![7, 0, 8, 9, 9, 0, 0, 9, 9, 9], 1);
+    add(vec![7, 0, 6, 9, 9, 0, 0, 9], 4);
     // in a loop 5 before 6; an earlier field's 6 before a later field's 1, 2, 4 and 5
-    add(looped(2, 1, own), 5);
-    add(looped(0, 10_001, 65_535), 5);
+    for (body, test) in [(own, own), (own, 0), (0, own), (65_535, 0), (0, 65_535)] {
+        add(looped(2, 1, body, test), 5);
+        add(looped(0, 10_001, body, test), 5);
+    }
     for later in [vec![3], field(9, &[]), two_slots(0), field(3, &[0]), plain(1, 0)] {
         add([sequence(&[own]), later.clone()].concat(), 6);
         add([branch(&[0, own]), later.clone()].concat(), 6);
-        add([looped(1, 1, own), later].concat(), 6);
+        add([looped(1, 1, own, 0), later.clone()].concat(), 6);
+        add([looped(1, 1, 0, own), later].concat(), 6);
     }
     // an earlier 5 before a later 6
     add([bus_block(0, 1, 1), sequence(&[9])].concat(), 5);
@@ -1390,7 +1814,15 @@ fn bodies(tag: u8) -> Vec<Vec<u8>> {
         4 => vec![vec![1, 1, 5], vec![0, 1, 5], vec![2, 1, 6]],
         5 => vec![vec![0, 0], vec![1, 0], vec![0, 0, 255, 255]],
         6 => vec![vec![0, 0, 0, 0], vec![0, 0, 1, 0], vec![255, 255, 0, 0]],
-        7 => vec![vec![0, 0, 0, 2, 0, 0], vec![0, 3, 0, 2, 0, 0], vec![0, 0, 0, 2, 1, 0], vec![0, 3, 0, 2, 1, 0]],
+        7 => vec![
+            vec![0, 0, 0, 2, 0, 0, 0, 0],
+            vec![0, 3, 0, 2, 0, 0, 0, 0],
+            vec![0, 0, 0, 2, 1, 0, 0, 0],
+            vec![0, 0, 0, 2, 0, 0, 1, 0],
+            vec![0, 3, 0, 2, 1, 0, 1, 0],
+            // document 01's
+            vec![0, 0, 0, 2, 0, 0],
+        ],
         8 => vec![vec![0, 0], vec![0, 1], vec![1, 0], vec![255, 255]],
         9 => vec![vec![0, 0, 5, 1, 5], vec![0, 16, 5], vec![1, 0, 5], vec![0, 0, 129], vec![0, 0, 128, 1, 128, 0, 1]],
         10 => vec![vec![0, 1, 5, 0, 1], vec![3, 5, 5, 255, 255], vec![4, 1, 5, 0, 1], vec![0, 0, 5, 0, 1], vec![0, 1, 6, 0, 1]],

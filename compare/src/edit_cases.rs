@@ -4,7 +4,8 @@ use crate::cases::{longest_block, longest_image, longest_schedule, two_slots};
 use crate::edit_generate::{Edits, Expected};
 use crate::editing::{is_plain, refused_line, Edit};
 use crate::generate::{
-    blank_nodes, branch, bus, bus_block, entry, fetch, field, hexadecimal, looped, plain, schedule, sequence, starts, Random,
+    blank_nodes, branch, bus, bus_block, entry, fetch, field, hexadecimal, idle, looped, plain, schedule, sequence, starts,
+    Random,
 };
 use crate::image::judge;
 use Expected::{Begins, Line, Open};
@@ -17,7 +18,7 @@ fn edit(image: &[u8], node: u64, (lowest, highest): (u64, u64), places: u64) -> 
     Edit { image: image.to_vec(), node, lowest, highest, places }
 }
 
-/// An image with nodes of every kind: blocks in a sequence, in a branch, in a loop, shared, and one that is not reached.
+/// An image with nodes of every kind: blocks in a sequence, in a branch, in a loop, as its test, shared, and one that is not reached.
 fn every_kind() -> Vec<u8> {
     every_kind_on(bus(2, 5, 0))
 }
@@ -29,7 +30,7 @@ fn every_kind_on(field_1: Vec<u8>) -> Vec<u8> {
         plain(7, 7),
         sequence(&[0, 1, 2]),
         branch(&[0, 3]),
-        looped(1, 3, 4),
+        looped(1, 3, 4, 2),
         plain(4, 4),
         fetch(0, 2, 2, 1),
         sequence(&[7, 5, 7, 2]),
@@ -107,9 +108,43 @@ pub fn worked(edits: &mut Edits) {
     let lone = [plain(1, 1), bus_block(2, 255, 255), sequence(&[0, 1])];
     done((schedule(3, &[(3, 128), (3, 128)]), &[255]), &lone, 0, (2, 2), (257, 257, &[(0, 257)]));
     // a block in a loop, which counts each time; in one that may not execute it; in one that does not
-    done((small(), &[0]), &[plain(1, 1), looped(1, 3, 0)], 0, (3, 3), (9, 9, &[(3, 3), (6, 6), (9, 9)]));
-    done((small(), &[0]), &[plain(1, 1), looped(0, 1, 0)], 0, (3, 3), (3, 3, &[(0, 0), (3, 3)]));
-    done((small(), &[4]), &[plain(1, 1), looped(0, 0, 0)], 0, (3, 3), (0, 0, &[(4, 0)]));
+    let with_idle = |least, greatest| [plain(1, 1), idle(), looped(least, greatest, 0, 1)];
+    done((small(), &[0]), &with_idle(1, 3), 0, (3, 3), (9, 9, &[(3, 3), (6, 6), (9, 9)]));
+    done((small(), &[0]), &with_idle(0, 1), 0, (3, 3), (3, 3, &[(0, 0), (3, 3)]));
+    done((small(), &[4]), &with_idle(0, 0), 0, (3, 3), (0, 0, &[(4, 0)]));
+    // the test of the same loops, from 0 to 2 cycles: it counts once more than the body of 1 cycle, and alone where there is no iteration
+    done((small(), &[0]), &with_idle(1, 3), 1, (2, 2), (11, 11, &[(1, 11), (5, 5), (8, 8)]));
+    done((small(), &[0]), &with_idle(0, 1), 1, (2, 2), (5, 5, &[(2, 2), (5, 5)]));
+    done((small(), &[4]), &with_idle(0, 0), 1, (2, 2), (2, 2, &[(6, 2)]));
+    // from one duration to two, 0 or 1, around plain 1: 0 or 1; 1 to 3
+    done((small(), &[0]), &with_idle(0, 0), 1, (0, 1), (1, 1, &[(0, 0), (1, 1)]));
+    done((small(), &[0]), &with_idle(1, 1), 1, (0, 1), (3, 3, &[(1, 1), (2, 2), (3, 3)]));
+    // "Loop over A2, counts 1 to 3, from {4}: 2 after 18, 4 after 10; both figures 18.": the test becomes one of no cycles
+    done((small(), &[4]), &[bus_block(2, 2, 2), plain(7, 9), looped(1, 3, 0, 1)], 1, (0, 0), (18, 18, &[(2, 18), (4, 10)]));
+    // A2 as test around a block that is edited to 1 cycle, from {4}, as in the worked tests
+    let around = [bus_block(2, 2, 2), plain(60, 63), looped(0, 2, 1, 0)];
+    done((small(), &[4]), &around, 1, (1, 1), (18, 18, &[(2, 18), (5, 11)]));
+    // a block that is body and test: once, 3 and 5 times 3 cycles
+    done((small(), &[0]), &[plain(1, 1), looped(0, 2, 0, 0)], 0, (3, 3), (15, 15, &[(3, 3), (5, 15), (9, 9)]));
+    // the test of two loops, one in the other: 2 × (2 × 1 + 3 × t) + 3 × t, with t = 4; one that is a child of a sequence too: 4 + 1 + 4 + 4
+    let two = [plain(1, 1), plain(9, 9), looped(2, 2, 0, 1), looped(2, 2, 2, 1)];
+    done((small(), &[0]), &two, 1, (4, 4), (40, 40, &[(0, 40)]));
+    let shared = [plain(1, 1), plain(9, 9), looped(1, 1, 0, 1), sequence(&[2, 1])];
+    done((small(), &[0]), &shared, 1, (4, 4), (13, 13, &[(3, 13)]));
+    // in a test that is a branch of it and plain 1, of a loop of no iterations; in one that is a loop over it, twice, around plain 1
+    let branched = [plain(1, 1), plain(9, 9), branch(&[0, 1]), looped(0, 0, 0, 2)];
+    done((small(), &[0]), &branched, 1, (4, 4), (4, 4, &[(1, 1), (4, 4)]));
+    let in_loop = [plain(1, 1), plain(9, 9), idle(), looped(2, 2, 1, 2), looped(1, 1, 0, 3)];
+    done((small(), &[0]), &in_loop, 1, (4, 4), (17, 17, &[(7, 17)]));
+    // before a test that fetches a line of 2 cycles, with a hit of 1, around plain 3, from {4}: by 10 cycles it comes to the same offset
+    let fetched = [fetch(0, 2, 2, 1), plain(3, 3), looped(0, 2, 1, 0), plain(1, 1), sequence(&[3, 2])];
+    done((small(), &[4]), &fetched, 3, (10, 10), (26, 38, &[(0, 26), (2, 18), (6, 22)]));
+    // the test of a loop that is not reached, and of one whose body is a loop of no iterations; with slots of unequal length: 4 cycles,
+    // then an access of 3: 3 after 13, 7 after 17
+    done((small(), &[0]), &[plain(1, 1), plain(9, 9), looped(2, 2, 0, 1), plain(5, 5)], 1, (4, 4), (5, 5, &[(5, 5)]));
+    done((small(), &[0]), &[plain(1, 1), plain(9, 9), looped(0, 0, 0, 1), looped(1, 1, 2, 0)], 1, (4, 4), (6, 6, &[(6, 6)]));
+    let accessed = [plain(1, 1), bus_block(2, 3, 3), looped(1, 1, 1, 0)];
+    done((two_slots(0), &[0]), &accessed, 0, (4, 4), (17, 17, &[(7, 17)]));
     // a block that is shared, and blocks that are not reached: before the entry only
     done((small(), &[0]), &[plain(1, 1), sequence(&[0, 0, 0])], 0, (11, 11), (33, 33, &[(3, 33)]));
     done((small(), &[0]), &[plain(1, 1), plain(2, 2)], 0, (9, 9), (2, 2, &[(2, 2)]));
@@ -124,16 +159,17 @@ pub fn worked(edits: &mut Edits) {
         }
     }
     // a node above the entry that is too deep or too long for one
-    let long = [plain(1, 1), looped(10_000, 10_000, 0), looped(10, 10, 1), plain(7, 7), entry(1)];
+    let long = [plain(1, 1), idle(), looped(10_000, 10_000, 0, 1), looped(5, 5, 2, 1), plain(7, 7), entry(2)];
     done((small(), &[0]), &long, 0, (2, 2), (20_000, 20_000, &[(0, 20_000)]));
-    done((small(), &[0]), &long, 3, (2, 2), (10_000, 10_000, &[(0, 10_000)]));
+    done((small(), &[0]), &long, 1, (2, 2), (30_002, 30_002, &[(2, 30_002)]));
+    done((small(), &[0]), &long, 4, (2, 2), (10_000, 10_000, &[(0, 10_000)]));
     // a line above the entry, 64 × 16 = 1,024, and slots of unequal length: 4 cycles, and an access of 3: 3 after 4 + 6 + 3
     done((bus(4, 16, 0), &[0]), &[plain(1, 1), fetch(3, 2, 2, 1), sequence(&[0, 1]), entry(0)], 0, (9, 9), (9, 9, &[(9, 9)]));
-    let three_of = [plain(1, 1), bus_block(2, 3, 3), sequence(&[0, 1]), looped(9, 9, 2), plain(0, 63), entry(2)];
+    let three_of = [plain(1, 1), bus_block(2, 3, 3), sequence(&[0, 1]), looped(9, 9, 2, 0), plain(0, 63), entry(2)];
     done((two_slots(0), &[0]), &three_of, 0, (4, 4), (13, 13, &[(3, 13)]));
-    // times above 32 bits: 99,989 times
-    let long = [plain(1, 1), looped(10_000, 10_000, 0), looped(9_989, 9_989, 0), sequence(&[1, 1, 1, 1, 1, 1, 1, 1, 1, 2])];
-    done((small(), &[0]), &long, 0, (65_535, 65_535), (6_552_779_115, 6_552_779_115, &[(5, 6_552_779_115)]));
+    // times above 32 bits: 99,994 times, as bodies and as tests
+    let long = [plain(1, 1), looped(10_000, 10_000, 0, 0), looped(9_994, 9_994, 0, 0), sequence(&[1, 1, 1, 1, 2, 0])];
+    done((small(), &[0]), &long, 0, (65_535, 65_535), (6_553_106_790, 6_553_106_790, &[(0, 6_553_106_790)]));
 }
 
 /// Durations on both sides of every rule, with all that a narrower number would lose.
@@ -170,7 +206,7 @@ pub fn grid(edits: &mut Edits) {
     let images = [
         every_kind(),
         [bus(16, 16, 5), starts(&all), plain(3, 3)].concat(),
-        [bus(2, 1, 1), starts(&[0, 1]), bus_block(1, 1, 1), plain(0, 1), branch(&[0, 1]), looped(0, 2, 2)].concat(),
+        [bus(2, 1, 1), starts(&[0, 1]), bus_block(1, 1, 1), plain(0, 1), branch(&[0, 1]), looped(0, 2, 2, 1)].concat(),
         [bus(3, 85, 0), starts(&[254]), bus_block(2, 1, 4), sequence(&[0, 0]), plain(9, 9)].concat(),
         [bus(2, 5, 1), starts(&[0]), bus_block(2, 1, 4), sequence(&[0, 0])].concat(),
         [bus(2, 128, 0), starts(&[0]), plain(1, 1), plain(1, 1), plain(1, 1), sequence(&[2, 0, 2])].concat(),
@@ -180,7 +216,7 @@ pub fn grid(edits: &mut Edits) {
         [longest_schedule(), starts(&all), plain(3, 3), bus_block(2, 12, 12)].concat(),
         // the entry named: below, between and above plain blocks, and one itself
         [every_kind(), entry(5)].concat(),
-        [bus(2, 3, 1), starts(&[2, 5]), bus_block(1, 2, 3), plain(0, 1), looped(0, 3, 0), entry(0)].concat(),
+        [bus(2, 3, 1), starts(&[2, 5]), bus_block(1, 2, 3), plain(0, 1), looped(0, 3, 0, 1), entry(0)].concat(),
         [two_slots(0), starts(&[6]), plain(0, 1), plain(2, 2), sequence(&[0, 1]), entry(1)].concat(),
     ];
     for image in &images {
@@ -229,21 +265,31 @@ fn broken() -> Vec<(u64, Vec<u8>)> {
         (5, bad_first),
         (5, wide_first),
         (6, with(sequence(&[9]))),
-        (6, [opening(), plain(1, 1), looped(1, 2, 1)].concat()),
+        (6, [opening(), plain(1, 1), looped(1, 2, 1, 0)].concat()),
         (7, Vec::new()),
         (7, bus(2, 5, 0)),
         (7, opening()),
         (8, [opening(), plain(1, 1), tower(24)].concat()),
-        (9, [opening(), plain(1, 1), looped(1, 10_000, 0), looped(1, 10, 1)].concat()),
+        (9, [opening(), plain(1, 1), looped(1, 10_000, 0, 0), looped(1, 5, 1, 0)].concat()),
         (8, [wide(), tower(24)].concat()),
-        (9, [wide(), looped(1, 10_000, 0), looped(1, 10, 1)].concat()),
+        (9, [wide(), looped(1, 10_000, 0, 0), looped(1, 5, 1, 0)].concat()),
         (18, wide()),
         (18, [wide(), tower(23)].concat()),
-        (18, [wide(), looped(1, 10_000, 0), looped(1, 9, 1)].concat()),
+        (18, [wide(), looped(1, 10_000, 0, 0), looped(1, 4, 1, 0)].concat()),
         (18, [wide(), plain(1, 1), plain(2, 2), sequence(&[1, 0, 2])].concat()),
         (18, [bus(2, 128, 1), starts(&[0]), plain(1, 1), fetch(3, 1, 1, 1), sequence(&[1, 0])].concat()),
         (18, [bus(5, 13, 2), starts(&[0]), plain(1, 1), fetch(3, 1, 1, 1), plain(1, 1)].concat()),
         (18, [bus(2, 64, 0), starts(&[0]), plain(1, 1), plain(2, 2), fetch(3, 1, 1, 1), sequence(&[2, 0, 1])].concat()),
+        // loops: of 6, 7 and 9 bytes; cut; a greatest below the least; a test that is not below; one that is too deep or too long
+        (4, [opening(), plain(1, 1), field(7, &[0, 1, 0, 2, 0, 0])].concat()),
+        (4, [opening(), plain(1, 1), plain(1, 1), field(7, &[0, 1, 0, 2, 0, 0, 0])].concat()),
+        (4, [opening(), plain(1, 1), plain(1, 1), field(7, &[0, 1, 0, 2, 0, 0, 0, 1, 0])].concat()),
+        (1, [opening(), plain(1, 1), looped(1, 2, 0, 0)[..9].to_vec()].concat()),
+        (5, [opening(), plain(1, 1), looped(2, 1, 0, 1)].concat()),
+        (6, [opening(), plain(1, 1), looped(1, 2, 0, 1)].concat()),
+        (6, [opening(), plain(1, 1), looped(0, 0, 0, 256), plain(1, 1)].concat()),
+        (8, [opening(), plain(1, 1), tower(23), looped(0, 0, 0, 23)].concat()),
+        (9, [opening(), plain(1, 1), looped(1, 10_000, 0, 0), looped(2, 2, 0, 1), looped(1, 1, 0, 2)].concat()),
         // with tag 8: an entry that is not a node; cut; before the nodes; of a wrong length; followed by bytes, a field or another; a node
         // above the entry that is refused; a named one that is too deep or too long, and a line above it that is too many
         (11, with(entry(9))),
@@ -264,7 +310,7 @@ fn broken() -> Vec<(u64, Vec<u8>)> {
         (6, with([sequence(&[9]), entry(0)].concat())),
         (3, [opening(), blank_nodes(257), entry(0)].concat()),
         (8, [opening(), plain(1, 1), tower(24), plain(1, 1), entry(24)].concat()),
-        (9, [opening(), plain(1, 1), looped(1, 10_000, 0), looped(1, 10, 1), plain(1, 1), entry(2)].concat()),
+        (9, [opening(), plain(1, 1), looped(1, 10_000, 0, 0), looped(1, 5, 1, 0), plain(1, 1), entry(2)].concat()),
         (18, [bus(16, 16, 0), starts(&[0]), plain(1, 1), fetch(2, 1, 1, 1), entry(0)].concat()),
         // with tag 9: a field 1 that is cut, stands behind another, has a wrong length, core, slot or sum, or no slot for the analysed
         // core; a duration above the longest stretch; no node; a period of 65 and four lines
@@ -302,13 +348,13 @@ pub fn order(edits: &mut Edits) {
             }
         }
     }
-    // where the fields of the plain blocks stand: the first at 11, the second after 7 and 6 bytes more, the third after 7, 9, 7 and 9;
+    // where the fields of the plain blocks stand: the first at 11, the second after 7 and 6 bytes more, the third after 7, 9, 7 and 11;
     // behind a field 1 of 12 bytes all 6 bytes further on; behind them tag 8, or not
     let closed = |number: u16| [every_kind(), entry(number)].concat();
     let images = [(every_kind(), 0), (every_kind_on(two_slots(0)), 6), (closed(8), 0), (closed(4), 0), (closed(0), 0)];
     for (image, further) in images {
         let length = image.len() as u64;
-        for (node, place) in [(0, 11 + further), (2, 24 + further), (6, 56 + further)] {
+        for (node, place) in [(0, 11 + further), (2, 24 + further), (6, 58 + further)] {
             for places in [0, 9, 10, 300] {
                 for durations in bad {
                     edits.add("order of refusals", edit(&image, node, durations, places), Line(refused_line(&image, 5, place)));

@@ -44,13 +44,17 @@ impl Edits {
     }
 }
 
-/// Mostly a plain block, else one with tag 10, any node, one behind the last, or one that a narrower number would make of it.
+/// Mostly a plain block, often one that is a test, else one with tag 10, any node, one behind the last, or one that a narrower number would
+/// make of it.
 fn random_node(random: &mut Random, task: &Task) -> u64 {
     let count = task.nodes.len() as u64;
     let plain: Vec<u64> = (0..count).filter(|&node| matches!(task.nodes[node as usize], Node::Plain { .. })).collect();
     let fetch: Vec<u64> = (0..count).filter(|&node| matches!(task.nodes[node as usize], Node::Fetch { .. })).collect();
+    let test = |&node: &u64| task.nodes.iter().any(|other| matches!(other, Node::Loop { test, .. } if *test as u64 == node));
+    let tests: Vec<u64> = plain.iter().copied().filter(test).collect();
     match random.below(12) {
         0 if !fetch.is_empty() => *random.one_of(&fetch),
+        1..=2 if !tests.is_empty() => *random.one_of(&tests),
         0..=7 if !plain.is_empty() => *random.one_of(&plain),
         8 => count + random.below(3),
         9 => random.below(count) + *random.one_of(&[1 << 8, 1 << 16, 1 << 32, 1 << 63]),

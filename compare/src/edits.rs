@@ -24,7 +24,7 @@ mod runs;
 
 use edit_generate::{Case, Expected};
 use editing::Found;
-use reference::{Lines, Named, Unequal};
+use reference::{executed, executed_loops, Lines, Named, Tested, Unequal};
 use report::{Options, Tests};
 use std::collections::BTreeMap;
 use std::sync::Mutex;
@@ -61,6 +61,10 @@ struct Summary {
     with_entry: usize,
     named: Named,
     above: usize,
+    /// figures of images that execute a loop, and those of them after an edit of a block that is a test, and of one that a test executes
+    tested: Tested,
+    of_test: usize,
+    in_test: usize,
 }
 
 /// Compares the program's line for an edit.
@@ -83,6 +87,12 @@ fn perform(number: usize, case: &Case, line: &str, summary: &Mutex<Summary>) {
         summary.unequal.count(task);
         summary.named.count(task);
         summary.above += usize::from(case.edit.node > task.entry() as u64);
+        summary.tested.count(task);
+        let (block, loops) = (case.edit.node as usize, executed_loops(task));
+        let of_test = loops.iter().any(|&(_, _, test)| test == block);
+        let in_test = loops.iter().any(|&(_, _, test)| executed(task, test).contains(&block));
+        summary.of_test += usize::from(of_test);
+        summary.in_test += usize::from(in_test && !of_test);
     }
     match answer.found {
         Found::Own(number) => *summary.own.entry(number).or_default() += 1,
@@ -102,7 +112,7 @@ fn perform(number: usize, case: &Case, line: &str, summary: &Mutex<Summary>) {
 
 fn main() {
     let threads = std::thread::available_parallelism().map_or(2, |number| number.get()).min(8) as u64;
-    let numbers = [("--seed", 1), ("--images", 22_000), ("--threads", threads), ("--stop-after", u64::MAX)];
+    let numbers = [("--seed", 1), ("--images", 25_000), ("--threads", threads), ("--stop-after", u64::MAX)];
     let options = Options::new(&numbers, "target/compare/edits-linked");
     let (seed, threads) = (options.number("--seed"), options.size("--threads").max(1));
     let begun = Instant::now();
@@ -138,13 +148,16 @@ fn main() {
     println!("edits of images with tag 9: {}; figures with tag 9: {}", summary.with_pairs, summary.unequal);
     println!("edits of images with tag 8: {}; figures with tag 8: {}", summary.with_entry, summary.named);
     println!("figures after an edit above the entry: {}", summary.above);
+    println!("figures with loops: {}", summary.tested);
+    println!("figures after an edit of a test: {}, of a block in a test: {}", summary.of_test, summary.in_test);
     // every answer of the papers was met, and runs were enumerated
     let each_refusal = (1..=9).chain([11, 18]).all(|number| summary.own.get(&number).copied().unwrap_or(0) >= 10);
     let edits = summary.block.min(summary.durations).min(summary.table) >= 500;
     let lines = summary.fetched.min(summary.with_lines).min(summary.wider) >= 200;
     let schedules = summary.with_pairs >= 5_000 && summary.unequal.all >= 1_000 && summary.unequal.met(50);
     let entries = summary.with_entry >= 5_000 && summary.named.not_last >= 1_000 && summary.named.met(50) && summary.above >= 200;
+    let tested = summary.tested.busy >= 1_000 && summary.tested.met(100) && summary.of_test >= 500 && summary.in_test >= 100;
     let ways = summary.enumerated >= 2_000 && summary.calculated >= 100;
-    let met = each_refusal && edits && lines && schedules && entries && ways;
+    let met = each_refusal && edits && lines && schedules && entries && tested && ways;
     summary.tests.close(all.len() + batches.len(), &[(met, "too few edits of some kind")], LEAST_PASSED);
 }

@@ -17,12 +17,13 @@ pub struct Case {
     pub category: &'static str,
     pub image: Vec<u8>,
     pub expected: Expected,
-    /// the number of the image that says the same with tag 1, or without tag 8, where this one is made of it
+    /// the number of the image that says the same with tag 1, without tag 8, or with loops, where this one is made of it
     pub same_as: Option<usize>,
 }
 
-/// The category of images made of others by naming their entry.
+/// The categories of images made of others by naming their entry, and by writing their loops out.
 pub const NAMED: &str = "entry named";
+pub const WRITTEN_OUT: &str = "loops written out";
 
 /// The images, each once.
 #[derive(Default)]
@@ -52,11 +53,18 @@ impl Cases {
         }
     }
 
-    /// Adds an image that is longer than the one of this number, and says the same.
+    /// Adds the image of this number with its loops written out, where that can be done and it is calculated in time.
+    fn add_written_out(&mut self, number: usize) {
+        if let Some(image) = written_out(&self.list[number].image).filter(|image| work(image) <= MOST_WORK) {
+            self.add_same(WRITTEN_OUT, image, number);
+        }
+    }
+
+    /// Adds an image that says the same as the one of this number.
     fn add_same(&mut self, category: &'static str, image: Vec<u8>, number: usize) {
         let case = &self.list[number];
         let expected = match &case.expected {
-            Expected::Text(text) => Expected::Text(moved(text, image.len() - case.image.len())),
+            Expected::Text(text) => Expected::Text(moved(text, case.image.len(), image.len())),
             expected => expected.clone(),
         };
         let all = self.list.len();
@@ -172,8 +180,13 @@ pub fn branch(arms: &[u16]) -> Vec<u8> {
     field(6, &numbers(arms))
 }
 
-pub fn looped(least: u16, greatest: u16, body: u16) -> Vec<u8> {
-    field(7, &numbers(&[least, greatest, body]))
+pub fn looped(least: u16, greatest: u16, body: u16, test: u16) -> Vec<u8> {
+    field(7, &numbers(&[least, greatest, body, test]))
+}
+
+/// A plain block of duration 0, with which as test "The loop tasks of document 01 hold".
+pub fn idle() -> Vec<u8> {
+    plain(0, 0)
 }
 
 /// The field that closes an image: the entry's number.
@@ -203,23 +216,67 @@ fn with_entry(random: &mut Random, image: &[u8]) -> Option<Vec<u8>> {
     let last = field_places(image).len() as u16 - 4;
     let mut named = image.to_vec();
     for _ in 0..random.below(4).min(255 - u64::from(last)) {
-        named.extend(match random.below(5) {
+        named.extend(match random.below(7) {
             0 => plain(random.from(250, 300) as u16, 300),
             1 => bus_block(2, 1, 1),
             2 => sequence(&[last, 0, last]),
             3 => branch(&[0, last]),
-            _ => looped(0, 10_000, last),
+            4 => looped(0, 10_000, last, 0),
+            5 => looped(0, 10_000, 0, last),
+            _ => looped(0, 0, 0, last),
         });
     }
     Some([named, entry(last)].concat())
 }
 
-/// What has to be written for an image that is so many bytes longer before the place of a refusal: this moves, and nothing else.
-pub fn moved(text: &str, by: usize) -> String {
+/// The image with its loops of at most 7 iterations written out: for each permitted count a sequence of the test and, as often as it says,
+/// of the body and the test, below a branch where there are several; if it has such a loop and is accepted, written so too.
+fn written_out(image: &[u8]) -> Option<Vec<u8>> {
+    let task = judge(image).ok()?;
+    let opening = &image[..field_places(image)[2]];
+    let mut nodes: Vec<Vec<u8>> = Vec::new();
+    // where each node stands now
+    let mut now: Vec<u16> = Vec::new();
+    let mut any = false;
+    for node in &task.nodes {
+        let all = |named: &[usize]| named.iter().map(|&child| now[child]).collect::<Vec<_>>();
+        let written = match node {
+            Node::Plain { lowest, highest } => plain(*lowest as u16, *highest as u16),
+            Node::Access { may, lowest, highest } => bus_block(if *may { 1 } else { 2 }, *lowest as u8, *highest as u8),
+            Node::Fetch { line, lowest, highest, hit } => fetch(*line as u8, *lowest as u8, *highest as u8, *hit as u16),
+            Node::Sequence { children } => sequence(&all(children)),
+            Node::Branch { arms } => branch(&all(arms)),
+            Node::Loop { least, greatest, body, test } if *greatest <= 7 => {
+                any = true;
+                let (body, test) = (now[*body], now[*test]);
+                let mut counts = (*least..=*greatest)
+                    .map(|count| sequence(&[vec![test], [body, test].repeat(count as usize)].concat()))
+                    .collect::<Vec<_>>();
+                if counts.len() > 1 {
+                    let first = nodes.len() as u16;
+                    counts.push(branch(&(first..first + counts.len() as u16).collect::<Vec<_>>()));
+                }
+                let last = counts.pop()?;
+                nodes.extend(counts);
+                last
+            }
+            Node::Loop { least, greatest, body, test } => looped(*least as u16, *greatest as u16, now[*body], now[*test]),
+        };
+        nodes.push(written);
+        now.push(nodes.len() as u16 - 1);
+    }
+    nodes.extend(task.named.map(|named| entry(now[named])));
+    let written = [opening, &nodes.concat()].concat();
+    (any && judge(&written).is_ok()).then_some(written)
+}
+
+/// What has to be written for an image of another length that says the same, where all that it is longer or shorter stands before the place
+/// of a refusal: this moves, and nothing else.
+pub fn moved(text: &str, from: usize, to: usize) -> String {
     let words: Vec<&str> = text.trim_end().split(' ').collect();
     match words[..] {
         ["refused", number, place] => {
-            let place = place.parse::<usize>().map_or(place.to_string(), |place| (place + by).to_string());
+            let place = place.parse::<usize>().map_or(place.to_string(), |place| (place + to).saturating_sub(from).to_string());
             format!("refused {number} {place}\n")
         }
         _ => text.to_string(),
@@ -245,7 +302,7 @@ pub fn work(image: &[u8]) -> u64 {
             Node::Sequence { children: named } | Node::Branch { arms: named } => {
                 named.iter().fold(256, |sum, &child| (sum + works[child]).min(1 << 40))
             }
-            Node::Loop { greatest, body, .. } => 256 + greatest * (256 + works[*body]),
+            Node::Loop { greatest, body, test, .. } => 256 + works[*test] + greatest * (256 + works[*body] + works[*test]),
         };
         works.push(work.min(1 << 40));
     }
@@ -253,7 +310,7 @@ pub fn work(image: &[u8]) -> u64 {
 }
 
 /// The categories of tasks that are worked out by hand.
-const WORKED: [&str; 4] = ["worked", "worked lines", "worked schedules", "worked entries"];
+const WORKED: [&str; 5] = ["worked", "worked lines", "worked schedules", "worked entries", "worked tests"];
 
 /// How large random tasks may become.
 pub struct Shape {
@@ -433,10 +490,11 @@ fn random_lines(random: &mut Random, period: u64) -> u64 {
 /// last without those that stand above it.
 pub fn random_nodes(random: &mut Random, shape: &Shape, bus: &Bus) -> Vec<u8> {
     let lines = random_lines(random, bus.period());
-    let mut fields = Vec::new();
+    let mut fields: Vec<Vec<u8>> = Vec::new();
     let nodes = random.from(1, shape.nodes);
     let named = random.once_in(3);
     let above = if named && random.once_in(2) { random.from(1, 4) } else { 0 };
+    let mut last = 0;
     for own in 0..nodes + above {
         // the entry is seldom a block
         let kind = if own == 0 {
@@ -446,14 +504,17 @@ pub fn random_nodes(random: &mut Random, shape: &Shape, bus: &Bus) -> Vec<u8> {
         } else {
             random.from(0, 9)
         };
-        fields.extend(random_node(random, shape, own, kind, (bus, lines)));
+        add_node(random, &mut fields, shape, kind, (bus, lines));
+        if own + 1 == nodes {
+            last = fields.len() as u16 - 1;
+        }
     }
     if above > 0 {
-        fields.extend(entry(nodes as u16 - 1));
+        fields.push(entry(last));
     } else if named {
-        fields.extend(random_entry(random, nodes));
+        fields.push(random_entry(random, fields.len() as u64));
     }
-    fields
+    fields.concat()
 }
 
 /// The entry of so many nodes: any, the first, the last, and mostly one of the last few.
@@ -467,8 +528,10 @@ fn random_entry(random: &mut Random, nodes: u64) -> Vec<u8> {
     entry(number as u16)
 }
 
-/// Where there are lines, most blocks have one.
-fn random_node(random: &mut Random, shape: &Shape, own: u64, kind: u64, (bus, lines): (&Bus, u64)) -> Vec<u8> {
+/// Adds a node, and before a loop a plain block of duration 0 where that is its test and there is none. Where there are lines, most blocks
+/// have one.
+fn add_node(random: &mut Random, fields: &mut Vec<Vec<u8>>, shape: &Shape, kind: u64, (bus, lines): (&Bus, u64)) {
+    let own = fields.len() as u64;
     let (period, most) = (bus.period(), longest_duration(bus));
     // mostly one of the last few nodes, so that most nodes are reached and some are shared
     let child = |random: &mut Random| {
@@ -492,7 +555,7 @@ fn random_node(random: &mut Random, shape: &Shape, own: u64, kind: u64, (bus, li
         };
         (lowest as u8, (lowest + range).min(most) as u8)
     };
-    match kind {
+    let node = match kind {
         0..=3 if lines > 0 && !random.once_in(3) => {
             let (lowest, highest) = accessed(random);
             fetch(random.below(lines) as u8, lowest, highest, passed(random) as u16)
@@ -525,9 +588,23 @@ fn random_node(random: &mut Random, shape: &Shape, own: u64, kind: u64, (bus, li
                 1 => greatest,
                 _ => random.from(0, greatest),
             };
-            looped(least as u16, greatest as u16, child(random))
+            // the test is mostly a plain block of duration 0 or any node, sometimes the body itself
+            let body = child(random);
+            let test = match random.below(8) {
+                0..=2 => {
+                    let known = fields.iter().rposition(|node| *node == idle());
+                    known.unwrap_or_else(|| {
+                        fields.push(idle());
+                        fields.len() - 1
+                    }) as u16
+                }
+                3 => body,
+                _ => child(random),
+            };
+            looped(least as u16, greatest as u16, body, test)
         }
-    }
+    };
+    fields.push(node);
 }
 
 /// The longest access of the bus that a byte can say.
@@ -547,16 +624,15 @@ fn many_lines(random: &mut Random) -> Vec<u8> {
         _ => random_schedule(random),
     };
     let (field_1, bus) = on_schedule(random, &schedule);
-    let mut image = [field_1, starts(&[random.below(bus.period()) as u8])].concat();
-    let nodes = random.from(2, 12);
-    for own in 0..nodes {
+    let mut nodes = Vec::new();
+    for own in 0..random.from(2, 12) {
         let kind = if own < 2 { random.from(0, 3) } else { random.from(0, 9) };
-        image.extend(random_node(random, &SMALL, own, kind, (&bus, 4)));
+        add_node(random, &mut nodes, &SMALL, kind, (&bus, 4));
     }
     if random.once_in(2) {
-        image.extend(random_entry(random, nodes));
+        nodes.push(random_entry(random, nodes.len() as u64));
     }
-    image
+    [field_1, starts(&[random.below(bus.period()) as u8]), nodes.concat()].concat()
 }
 
 /// A long loop over a branch of blocks with nearly the same times, most of them fetched once: runs that were behind for many iterations,
@@ -577,16 +653,19 @@ fn overtaking(random: &mut Random) -> Vec<u8> {
     let passed = time(random);
     let count = random.from(20, 1_500) as u16;
     let least = if random.once_in(2) { count } else { random.below(count.into()) as u16 };
+    // one of the blocks or the branch itself is the test, or none of them
+    let test = *random.one_of(&[3, 3, 3, 0, 1, 2, 4]);
     let mut nodes = vec![
         block(random),
         block(random),
         plain(passed, passed),
+        idle(),
         branch(if random.once_in(2) { &[0, 2] } else { &[0, 1, 2] }),
-        sequence(if random.once_in(2) { &[3] } else { &[3, 1] }),
-        looped(least, count, 4),
+        sequence(if random.once_in(2) { &[4] } else { &[4, 1] }),
+        looped(least, count, 5, test),
     ];
     if random.once_in(3) {
-        nodes.extend([looped(10_000, 10_000, 5), entry(5)]);
+        nodes.extend([looped(10_000, 10_000, 6, 3), entry(6)]);
     }
     let start = if one_offset { (core + 1) * slot % period } else { random.below(period) };
     let field_1 = Schedule::equal(cores, slot).field(random, core as u8);
@@ -640,7 +719,10 @@ fn damage(random: &mut Random, valid: &[u8]) -> Vec<u8> {
         }
         let nodes = (places.len() as u64).saturating_sub(if closed { 4 } else { 3 });
         let end = *places.iter().find(|&&place| place > start).unwrap_or(&image.len());
-        match random.below(14) {
+        // the loops, by the number of their field
+        let loops: Vec<usize> =
+            (2..places.len() - 1).filter(|&own| image[places[own]] == 7 && places[own + 1] - places[own] == 11).collect();
+        match random.below(16) {
             0 => image[at] = random.below(256) as u8,
             1 => image[at] ^= 1 << random.below(8),
             2 => image[at] = *random.one_of(&[0, 1, 2, 3, 4, 5, 6, 7, 8, 9, 10, 15, 16, 63, 64, 127, 128, 129, 255]),
@@ -670,6 +752,19 @@ fn damage(random: &mut Random, valid: &[u8]) -> Vec<u8> {
                 let from = if image[start] == 8 { start } else { end };
                 image.splice(from..end, entry(number as u16));
             }
+            // in a loop: the number of its body or its test is just below its own or just not; a length of 6 to 10, with as many bytes
+            13 if !loops.is_empty() => {
+                let own = *random.one_of(&loops);
+                let number = (own as u64 + random.below(3)).saturating_sub(3) + *random.one_of(&[0, 0, 0, 256, 65_000]);
+                let place = places[own] + *random.one_of(&[7, 9]);
+                image[place..place + 2].copy_from_slice(&(number as u16).to_be_bytes());
+            }
+            14 if !loops.is_empty() => {
+                let place = places[*random.one_of(&loops)];
+                let mut body = image[place + 3..place + 11].to_vec();
+                body.resize(random.from(6, 10) as usize, 0);
+                image.splice(place..place + 11, field(7, &body));
+            }
             _ => {
                 for _ in 0..random.from(1, 8) {
                     image.push(random.below(12) as u8);
@@ -683,24 +778,25 @@ fn damage(random: &mut Random, valid: &[u8]) -> Vec<u8> {
 /// Fields of any kind with numbers of any size.
 fn loose_fields(random: &mut Random) -> Vec<u8> {
     let (field_1, bus) = random_bus(random);
-    let mut image = [field_1, starts(&[random.below(bus.period()) as u8])].concat();
+    let start = random.below(bus.period()) as u8;
     let lines = random_lines(random, bus.period());
     let beyond = longest_duration(&bus) + 2;
-    let nodes = random.from(1, 12);
-    for own in 0..nodes {
+    let mut nodes: Vec<Vec<u8>> = Vec::new();
+    for _ in 0..random.from(1, 12) {
+        let own = nodes.len() as u64;
         let loose = random.once_in(9);
         let kind = if own == 0 && !loose { random.from(0, 3) } else { random.from(0, 9) };
         if !loose {
-            image.extend(random_node(random, &SMALL, own, kind, (&bus, lines)));
+            add_node(random, &mut nodes, &SMALL, kind, (&bus, lines));
             continue;
         }
         let near = |random: &mut Random| (own + random.below(3)).saturating_sub(1) as u16;
-        image.extend(match random.below(8) {
+        nodes.push(match random.below(8) {
             0 => plain(random.below(200) as u16, random.below(200) as u16),
             1 => bus_block(random.below(4) as u8, random.below(beyond) as u8, random.below(beyond) as u8),
             2 => sequence(&[near(random), near(random)]),
             3 => branch(&[near(random), 0]),
-            4 => looped(random.below(4) as u16, random.below(4) as u16, near(random)),
+            4 => looped(random.below(4) as u16, random.below(4) as u16, near(random), near(random)),
             5 => {
                 let (lowest, highest) = (random.below(beyond) as u8, random.below(beyond) as u8);
                 fetch(random.below(5) as u8, lowest, highest, random.below(200) as u16)
@@ -710,12 +806,13 @@ fn loose_fields(random: &mut Random) -> Vec<u8> {
         });
     }
     // closed as it should be, or nearly
+    let count = nodes.len() as u64;
     match random.below(6) {
-        0..=1 => image.extend(random_entry(random, nodes)),
-        2 => image.extend(entry((nodes - 1 + random.below(3)) as u16)),
+        0..=1 => nodes.push(random_entry(random, count)),
+        2 => nodes.push(entry((count - 1 + random.below(3)) as u16)),
         _ => {}
     }
-    image
+    [field_1, starts(&[start]), nodes.concat()].concat()
 }
 
 /// A schedule with tag 9 that has a number just inside or outside of its range, a sum near 256, or another length, and a task that
@@ -753,6 +850,42 @@ fn loose_schedule(random: &mut Random) -> Vec<u8> {
     image
 }
 
+/// A loop with a number just inside or outside of its range, or with another length, among nodes of any kind; above it a node that it is
+/// the test of, its body or neither.
+fn loose_loop(random: &mut Random) -> Vec<u8> {
+    let (field_1, bus) = random_bus(random);
+    let lines = random_lines(random, bus.period());
+    let mut nodes = Vec::new();
+    for own in 0..random.from(1, 5) {
+        let kind = if own == 0 { random.from(0, 3) } else { random.from(0, 9) };
+        add_node(random, &mut nodes, &SMALL, kind, (&bus, lines));
+    }
+    let own = nodes.len() as u64;
+    let near = |random: &mut Random| match random.below(12) {
+        0 => own as u16,
+        1 => (own + random.from(1, 3)) as u16,
+        2 => (random.below(own) + *random.one_of(&[256, 512, 65_280])) as u16,
+        _ => random.below(own) as u16,
+    };
+    let greatest = *random.one_of(&[0, 0, 1, 1, 2, 2, 3, 3, 4, 60, 10_000, 10_001]);
+    let least = if random.once_in(12) { greatest + 1 } else { random.from(0, greatest.into()) as u16 };
+    let mut node = looped(least, greatest, near(random), near(random));
+    if random.once_in(8) {
+        node.resize(random.from(8, 14) as usize, 0);
+        node = field(7, &node[3..]);
+    }
+    nodes.push(node);
+    let (own, other) = (own as u16, random.below(own) as u16);
+    match random.below(6) {
+        0 => nodes.push(looped(0, 2, other, own)),
+        1 => nodes.push(looped(0, 2, own, other)),
+        2 => nodes.push(sequence(&[own, other])),
+        3 => nodes.push(entry(own)),
+        _ => {}
+    }
+    [field_1, starts(&[random.below(bus.period()) as u8]), nodes.concat()].concat()
+}
+
 /// All images: those written by hand, the damaged ones, and random ones until there are `wanted`.
 pub fn all(seed: u64, wanted: usize) -> Vec<Case> {
     let mut random = Random::new(seed);
@@ -760,6 +893,9 @@ pub fn all(seed: u64, wanted: usize) -> Vec<Case> {
     cases::worked(&mut all);
     cases::worked_lines(&mut all);
     cases::worked_schedules(&mut all);
+    cases::worked_tests(&mut all);
+    cases::limits_of_tests(&mut all);
+    cases::visits_of_tests(&mut all);
     cases::small_schedules(&mut all);
     cases::limits(&mut all);
     cases::limits_of_lines(&mut all);
@@ -770,13 +906,18 @@ pub fn all(seed: u64, wanted: usize) -> Vec<Case> {
     cases::limits_of_entries(&mut all);
     cases::order(&mut all);
     cases::sizes(&mut all);
-    // all worked tasks and every sixth other image are written with tag 9 too; every sixth image with its entry named
+    // all worked tasks and every sixth other image are written with tag 9 too; every sixth image with its entry named; all worked tasks and
+    // every third other image with the loops written out
     for number in 0..all.list.len() {
-        if WORKED.contains(&all.list[number].category) || number % 6 == 0 {
+        let worked = WORKED.contains(&all.list[number].category);
+        if worked || number % 6 == 0 {
             all.add_other_way(number);
         }
         if number % 6 == 3 {
             all.add_named(&mut random, number);
+        }
+        if worked || number % 3 == 1 {
+            all.add_written_out(number);
         }
     }
 
@@ -832,15 +973,16 @@ pub fn all(seed: u64, wanted: usize) -> Vec<Case> {
     for _ in 0..5 {
         let (least, greatest) = (random.below(9_000) as u16, random.from(9_600, 9_900) as u16);
         let access = random.from(1, 3) as u8;
-        let children: Vec<u16> = (0..random.from(7, 9)).map(|_| *random.one_of(&[0, 0, 0, 1, 2])).collect();
+        let children: Vec<u16> = (0..random.from(6, 8)).map(|_| *random.one_of(&[0, 0, 0, 1, 2])).collect();
         let image = [
             bus(2, 3, random.below(2) as u8),
             starts(&[random.below(6) as u8]),
             plain(65_530, 65_535),
             if random.once_in(2) { fetch(3, 1, access, 65_534) } else { bus_block(random.from(1, 2) as u8, 1, access) },
             plain(random.from(65_500, 65_535) as u16, 65_535),
+            idle(),
             sequence(&children),
-            looped(least, greatest, 3),
+            looped(least, greatest, 4, random.below(4) as u16),
         ];
         all.add("long loops", image.concat(), Expected::Open);
     }
@@ -850,7 +992,7 @@ pub fn all(seed: u64, wanted: usize) -> Vec<Case> {
     }
 
     while all.list.len() < wanted {
-        match random.below(20) {
+        match random.below(22) {
             0..=8 => {
                 let (image, _) = valid_task(&mut random, &SMALL);
                 all.add("small tasks", image, Expected::Accepted);
@@ -897,9 +1039,17 @@ pub fn all(seed: u64, wanted: usize) -> Vec<Case> {
                 };
                 all.add_other_way(number);
             }
-            _ => {
+            19 => {
                 let image = loose_fields(&mut random);
                 all.add_quick("loose fields", image);
+            }
+            20 => {
+                let image = loose_loop(&mut random);
+                all.add_quick("loose loops", image);
+            }
+            _ => {
+                let number = random.below(all.list.len() as u64) as usize;
+                all.add_written_out(number);
             }
         }
     }

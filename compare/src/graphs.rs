@@ -1,7 +1,7 @@
 //! Graphs of task images on one bus clock: "For tight figures as times, each image must list every offset as a start."
 
 use crate::generate::{on_schedule, random_nodes, random_schedule, starts, work, Random, SMALL};
-use crate::image::{judge, Task as Image};
+use crate::image::{judge, Node, Task as Image};
 use crate::tasks::{by_events, late, numbers, Task};
 use crate::{offsets, runs};
 use std::collections::HashMap;
@@ -100,6 +100,14 @@ impl Graph {
     /// Tasks whose image has tag 8.
     pub fn with_entry(&self) -> usize {
         self.every.iter().filter(|image| image.named.is_some()).count()
+    }
+
+    /// Tasks whose image has a loop with a test that is not a plain block of duration 0.
+    pub fn with_tests(&self) -> usize {
+        let idle = Node::Plain { lowest: 0, highest: 0 };
+        let tested =
+            |image: &&Image| image.nodes.iter().any(|node| matches!(node, Node::Loop { test, .. } if image.nodes[*test] != idle));
+        self.every.iter().filter(tested).count()
     }
 
     /// Whether images with tag 9 have different analysed cores.

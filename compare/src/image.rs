@@ -1,4 +1,4 @@
-//! Judges a task image: document 01, "The task image" and "When no figure is given", and change requests W1, W5 and W9.
+//! Judges a task image: document 01, "The task image" and "When no figure is given", and change requests W1, W3, W5 and W9.
 
 /// "reads at most 16,384 bytes from standard input and judges those"
 pub const MOST_BYTES: usize = 16_384;
@@ -87,7 +87,7 @@ pub enum Node {
     Fetch { line: usize, lowest: u64, highest: u64, hit: u64 },
     Sequence { children: Vec<usize> },
     Branch { arms: Vec<usize> },
-    Loop { least: u64, greatest: u64, body: usize },
+    Loop { least: u64, greatest: u64, body: usize, test: usize },
 }
 
 /// An accepted image.
@@ -214,7 +214,7 @@ fn length_in_row(tag: u8, length: usize) -> bool {
         3 => length == 4,
         5 => (2..=32).contains(&length) && length % 2 == 0,
         6 => (4..=16).contains(&length) && length % 2 == 0,
-        7 => length == 6,
+        7 => length == 8,
         8 => length == 2,
         9 => (3..=65).contains(&length) && length % 2 == 1,
         10 => length == 5,
@@ -281,7 +281,8 @@ pub fn bus_of(tag: u8, body: &[u8]) -> Bus {
 fn children(tag: u8, body: &[u8]) -> Vec<u64> {
     match tag {
         5 | 6 => body.chunks(2).map(two_bytes).collect(),
-        7 => vec![two_bytes(&body[4..])],
+        // "least, greatest, body, and the child number of a test node"
+        7 => body[4..].chunks(2).map(two_bytes).collect(),
         _ => Vec::new(),
     }
 }
@@ -297,11 +298,11 @@ fn node(tag: u8, body: &[u8]) -> Node {
             let (lowest, highest) = (body[1].into(), body[2].into());
             Node::Fetch { line: body[0].into(), lowest, highest, hit: two_bytes(&body[3..]) }
         }
-        _ => Node::Loop { least: two_bytes(body), greatest: two_bytes(&body[2..]), body: named[0] },
+        _ => Node::Loop { least: two_bytes(body), greatest: two_bytes(&body[2..]), body: named[0], test: named[1] },
     }
 }
 
-/// "The depth of a block is 1, of another node 1 plus that of its deepest child."
+/// "The depth of a block is 1, of another node 1 plus that of its deepest child." "depth counts the test as a child."
 pub fn depths(nodes: &[Node]) -> Vec<u64> {
     let mut depths: Vec<u64> = Vec::new();
     for node in nodes {
@@ -310,15 +311,15 @@ pub fn depths(nodes: &[Node]) -> Vec<u64> {
             Node::Sequence { children: named } | Node::Branch { arms: named } => {
                 1 + named.iter().map(|&child| depths[child]).max().unwrap_or(0)
             }
-            Node::Loop { body, .. } => 1 + depths[*body],
+            Node::Loop { body, test, .. } => 1 + depths[*body].max(depths[*test]),
         };
         depths.push(depth);
     }
     depths
 }
 
-/// "The visits of a block are 1; of a sequence or branch 1 plus the sum over its children; of a loop 1 plus greatest
-/// count × visits of its body." The lesser of that and 100,001: exact up to 100,000, and 0 × many stays 0.
+/// "The visits of a block are 1; of a sequence or branch 1 plus the sum over its children"; of a loop "1 + greatest × (body + test) +
+/// test". The lesser of that and 100,001: exact up to 100,000, and 0 × many stays 0.
 pub fn visits(nodes: &[Node]) -> Vec<u64> {
     let mut visits: Vec<u64> = Vec::new();
     for node in nodes {
@@ -327,7 +328,7 @@ pub fn visits(nodes: &[Node]) -> Vec<u64> {
             Node::Sequence { children: named } | Node::Branch { arms: named } => {
                 1 + named.iter().map(|&child| visits[child]).sum::<u64>()
             }
-            Node::Loop { greatest, body, .. } => 1 + greatest * visits[*body],
+            Node::Loop { greatest, body, test, .. } => 1 + greatest * (visits[*body] + visits[*test]) + visits[*test],
         };
         visits.push(all.min(MOST_VISITS + 1));
     }

@@ -18,9 +18,9 @@ mod report;
 mod runs;
 
 use child::{Feed, Watched};
-use generate::{has_entry, hexadecimal, moved, Case, Expected, NAMED};
+use generate::{has_entry, hexadecimal, moved, Case, Expected, NAMED, WRITTEN_OUT};
 use image::MOST_BYTES;
-use reference::{Lines, Named, Unequal, Way};
+use reference::{Lines, Named, Tested, Unequal, Way};
 use report::{Failure, Options, Tests};
 use std::collections::BTreeMap;
 use std::sync::atomic::{AtomicBool, AtomicUsize, Ordering};
@@ -57,11 +57,15 @@ struct Summary {
     /// accepted images with tag 8, and refused ones by number
     named: Named,
     named_refused: BTreeMap<u64, usize>,
+    /// accepted images that execute a loop
+    tested: Tested,
     /// what the program wrote in each test, by its number
     written: BTreeMap<usize, String>,
-    /// pairs of images that are one written either way, and of those that are one without tag 8 and with it: accepted and refused ones
+    /// pairs of images that are one written either way, of those that are one without tag 8 and with it, and of those that are one with
+    /// its loops and without: accepted and refused ones
     pairs: (usize, usize),
     named_pairs: (usize, usize),
+    written_out: (usize, usize),
 }
 
 /// Ways of giving an input other than all at once through a pipe.
@@ -186,6 +190,7 @@ fn perform(number: usize, test: &Test, thread: usize, options: &Options, watched
         summary.unequal.count(task);
         summary.unequal_with_lines += usize::from(unequal && answer.lines != Lines::None);
         summary.named.count(task);
+        summary.tested.count(task);
     }
     if let Ok(output) = got {
         summary.written.insert(number, String::from_utf8_lossy(&output.written).into_owned());
@@ -206,18 +211,18 @@ fn perform(number: usize, test: &Test, thread: usize, options: &Options, watched
 }
 
 /// "An accepted image whose equal schedule is written either way gives equal answers", and so does one whose entry is named behind nodes
-/// that it does not reach: what the program itself wrote for both; of refused ones the place moves. The tests with images begin with this
-/// number.
+/// that it does not reach, and one whose loops are written out: what the program itself wrote for both; of refused ones the place moves. The
+/// tests with images begin with this number.
 fn compare_pairs(tests: &[Test], first: usize, summary: &mut Summary) {
     for (number, test) in tests.iter().enumerate() {
         let Some(other) = test.case.same_as.map(|other| first + other) else { continue };
         let (Some(one), Some(longer)) = (summary.written.get(&other), summary.written.get(&number)) else { continue };
-        let expected = moved(one, test.case.image.len() - tests[other].case.image.len());
+        let expected = moved(one, tests[other].case.image.len(), test.case.image.len());
         let refused = expected.starts_with("refused");
-        let (category, why, pairs) = if test.case.category == NAMED {
-            ("pairs with tag 8", "another answer than to the image without tag 8", &mut summary.named_pairs)
-        } else {
-            ("pairs either way", "another answer than to the image with tag 1", &mut summary.pairs)
+        let (category, why, pairs) = match test.case.category {
+            NAMED => ("pairs with tag 8", "another answer than to the image without tag 8", &mut summary.named_pairs),
+            WRITTEN_OUT => ("pairs written out", "another answer than to the image with loops", &mut summary.written_out),
+            _ => ("pairs either way", "another answer than to the image with tag 1", &mut summary.pairs),
         };
         pairs.0 += usize::from(!refused);
         pairs.1 += usize::from(refused);
@@ -236,7 +241,7 @@ fn main() {
     let threads = std::thread::available_parallelism().map_or(2, |number| number.get()).min(8) as u64;
     let numbers = [
         ("--seed", 1),
-        ("--images", 32_000),
+        ("--images", 35_000),
         ("--threads", threads),
         ("--limit", 30),
         ("--seconds", 140),
@@ -295,12 +300,15 @@ fn main() {
     println!("refused with tag 9 by number: {}", by_number(&summary.unequal_refused));
     println!("accepted with tag 8: {}", summary.named);
     println!("refused with tag 8 by number: {}", by_number(&summary.named_refused));
+    println!("accepted with loops: {}", summary.tested);
     println!("pairs written either way: {} accepted, {} refused", summary.pairs.0, summary.pairs.1);
     println!("pairs without and with tag 8: {} accepted, {} refused", summary.named_pairs.0, summary.named_pairs.1);
+    println!("pairs with loops and written out: {}", summary.written_out.0);
     println!("not read whole: {}", summary.unread);
     // every answer of the papers that `figure` can give was met, and runs were enumerated; many images have lines, and many of these show
     // whose exits are counted, and still more have none; many have slots of unequal length, of every kind, and as many have not; many have
-    // their entry named, of every kind, and still more have not. Where a field with tag 8 stands, 7 cannot hold.
+    // their entry named, of every kind, and still more have not; many have loops with tests of every kind. Where a field with tag 8
+    // stands, 7 cannot hold.
     let each = |refused: &BTreeMap<u64, usize>, but: u64| {
         let mut numbers = (1..=9).chain([11, 18]).filter(|&number| number != but);
         numbers.all(|number| refused.get(&number).copied().unwrap_or(0) >= 10)
@@ -312,8 +320,9 @@ fn main() {
     let schedules = unequal && summary.unequal_with_lines >= 500 && summary.pairs.0 >= 300 && summary.pairs.1 >= 300;
     let named = summary.named.met(50) && summary.named.not_last >= 1_000 && summary.named.all * 2 <= accepted;
     let entries = named && summary.named_pairs.0 >= 300 && summary.named_pairs.1 >= 30;
+    let tested = summary.tested.busy >= 1_000 && summary.tested.met(200) && summary.written_out.0 >= 200;
     let ways = summary.enumerated >= 500 && summary.calculated >= 100 && summary.unread >= 20;
-    let met = each_refusal && lines && schedules && entries && ways;
+    let met = each_refusal && lines && schedules && entries && tested && ways;
     let pairs = tests.iter().filter(|test| test.case.same_as.is_some()).count();
     summary.tests.close(tests.len() + pairs, &[(met, "too few images of some kind")], LEAST_PASSED);
 }

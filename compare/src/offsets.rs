@@ -1,4 +1,4 @@
-//! Both figures offset by offset: document 01, "Both figures", and change requests W5 and W9.
+//! Both figures offset by offset: document 01, "Both figures", and change requests W3, W5 and W9.
 
 use crate::image::{Bus, Node, Task, MOST_LINES};
 use std::collections::BTreeMap;
@@ -108,11 +108,12 @@ fn longest(task: &Task, node: usize, entry: &Combinations) -> Combinations {
             }
             exits
         }
-        Node::Loop { least, greatest, body } => {
-            let mut times = entry.clone();
+        // the times after k iterations and the test that follows them
+        Node::Loop { least, greatest, body, test } => {
+            let mut times = longest(task, *test, entry);
             for k in 0..=*greatest {
                 if k > 0 {
-                    times = longest(task, *body, &times);
+                    times = longest(task, *test, &longest(task, *body, &times));
                 }
                 if k >= *least {
                     join_all(&mut exits, &times);
@@ -201,16 +202,16 @@ fn cost(task: &Task, node: usize, entry: &Set) -> (u64, Set) {
             }
             (largest, joined)
         }
-        // "iteration i + 1 starts from the whole exit set of iteration i; the cost is the sum over the greatest count, and
-        // the exit set joins those after k iterations for every permitted k, k = 0 giving the entry set"
-        Node::Loop { least, greatest, body } => {
-            let mut sum = 0;
-            let mut set = entry.clone();
+        // "the cost is that of the greatest count with all its tests, and the exits after k iterations are those of the test that follows
+        // them, for k = 0 too"; each body and each test starts from the whole exit set of what stands before it
+        Node::Loop { least, greatest, body, test } => {
+            let (mut sum, mut set) = cost(task, *test, entry);
             let mut joined = nothing;
             for k in 0..=*greatest {
                 if k > 0 {
-                    let (one, exits) = cost(task, *body, &set);
-                    sum += one;
+                    let (of_body, between) = cost(task, *body, &set);
+                    let (of_test, exits) = cost(task, *test, &between);
+                    sum += of_body + of_test;
                     set = exits;
                 }
                 if k >= *least {

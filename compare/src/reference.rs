@@ -1,7 +1,8 @@
-//! What `figure` has to write for an input, by this folder's own reading of document 01 and of change requests W1, W5 and W9.
+//! What `figure` has to write for an input, by this folder's own reading of document 01 and of change requests W1, W3, W5 and W9.
 
 use crate::image::{depths, judge, visits, Node, Task, MOST_BYTES, MOST_DEPTH, MOST_VISITS};
 use crate::{offsets, runs};
+use std::collections::BTreeSet;
 use std::fmt;
 
 /// How an answer was found. `Unread`: a read fails, so that there is none.
@@ -105,6 +106,86 @@ impl fmt::Display for Named {
     fn fmt(&self, to: &mut fmt::Formatter) -> fmt::Result {
         write!(to, "{}, of them not of the last node: {}, of the first: {}", self.all, self.not_last, self.first)?;
         write!(to, ", below one too deep or too long: {}, below the highest line: {}", self.heavy, self.lines)
+    }
+}
+
+/// Accepted images that execute a loop: all, and those of them in which one has a test that is not a plain block of duration 0, and such
+/// a test that may follow no iteration, has choices, accesses the bus, fetches a line, holds a loop, and is the body.
+#[derive(Default)]
+pub struct Tested {
+    pub all: usize,
+    pub busy: usize,
+    pub at_0: usize,
+    pub chooses: usize,
+    pub accesses: usize,
+    pub fetches: usize,
+    pub loops: usize,
+    pub body: usize,
+}
+
+impl Tested {
+    pub fn count(&mut self, task: &Task) {
+        let loops = executed_loops(task);
+        let busy: Vec<_> =
+            loops.iter().filter(|(_, _, test)| task.nodes[*test] != Node::Plain { lowest: 0, highest: 0 }).collect();
+        // whether the test of one of them executes such a node
+        let any = |kind: &dyn Fn(&Node) -> bool| {
+            let mut tests = busy.iter().map(|(_, _, test)| executed(task, *test));
+            usize::from(tests.any(|test| test.into_iter().any(|number| kind(&task.nodes[number]))))
+        };
+        self.all += usize::from(!loops.is_empty());
+        self.busy += usize::from(!busy.is_empty());
+        self.at_0 += usize::from(busy.iter().any(|(least, _, _)| *least == 0));
+        self.chooses += any(&|node| match node {
+            Node::Plain { lowest, highest } | Node::Fetch { lowest, highest, .. } => lowest < highest,
+            Node::Access { may, lowest, highest } => *may || lowest < highest,
+            Node::Loop { least, greatest, .. } => least < greatest,
+            Node::Branch { .. } => true,
+            Node::Sequence { .. } => false,
+        });
+        self.accesses += any(&|node| matches!(node, Node::Access { .. } | Node::Fetch { .. }));
+        self.fetches += any(&|node| matches!(node, Node::Fetch { .. }));
+        self.loops += any(&|node| matches!(node, Node::Loop { .. }));
+        self.body += usize::from(busy.iter().any(|(_, body, test)| body == test));
+    }
+
+    /// Whether so many of each were met.
+    pub fn met(&self, least: usize) -> bool {
+        let each = [self.at_0, self.chooses, self.accesses, self.fetches, self.loops, self.body];
+        each.into_iter().all(|met| met >= least)
+    }
+}
+
+/// The loops that some run executes: least count, body and test.
+pub fn executed_loops(task: &Task) -> Vec<(u64, usize, usize)> {
+    let all = executed(task, task.entry()).into_iter().filter_map(|number| match task.nodes[number] {
+        Node::Loop { least, body, test, .. } => Some((least, body, test)),
+        _ => None,
+    });
+    all.collect()
+}
+
+/// The nodes that some execution of this one executes, itself among them: of a loop of no iterations the test alone.
+pub fn executed(task: &Task, node: usize) -> BTreeSet<usize> {
+    let mut all = BTreeSet::from([node]);
+    for number in (0..=node).rev() {
+        match &task.nodes[number] {
+            _ if !all.contains(&number) => {}
+            Node::Sequence { children: named } | Node::Branch { arms: named } => all.extend(named),
+            Node::Loop { greatest: 0, test, .. } => all.extend([test]),
+            Node::Loop { body, test, .. } => all.extend([body, test]),
+            _ => {}
+        }
+    }
+    all
+}
+
+impl fmt::Display for Tested {
+    fn fmt(&self, to: &mut fmt::Formatter) -> fmt::Result {
+        write!(to, "{}, of them with a test that is not plain 0: {}", self.all, self.busy)?;
+        write!(to, ", one after no iteration: {}, with choices: {}", self.at_0, self.chooses)?;
+        write!(to, ", that accesses: {}, that fetches a line: {}", self.accesses, self.fetches)?;
+        write!(to, ", that holds a loop: {}, that is the body: {}", self.loops, self.body)
     }
 }
 

@@ -1,6 +1,6 @@
 //! Enumerates runs by the clock, choice by choice and cycle by cycle, and merges nothing: document 01, "The bus and a run", and change
-//! requests W9, "A run's state gains the lines fetched, at first none", and W5, "an access may start where that core owns the next e
-//! cycles".
+//! requests W3, a loop's test "before each iteration and once after the last", W9, "A run's state gains the lines fetched, at first none",
+//! and W5, "an access may start where that core owns the next e cycles".
 //!
 //! Each run is executed anew from its start. A list of choices says what it takes wherever a choice is open; after the run
 //! the last choice that has another possibility moves on by one, and those behind it are taken from the first again.
@@ -117,10 +117,15 @@ impl<'a> Run<'a> {
                 let arm = self.choose(arms.len() as u64)?;
                 self.execute(arms[arm as usize])
             }
-            // "a loop its body as often as any permitted count says"
-            Node::Loop { least, greatest, body } => {
+            // "a loop its body as often as any permitted count says"; "The test is executed before each iteration and once after the
+            // last, so a count of 0 still executes it once."
+            Node::Loop { least, greatest, body, test } => {
                 let count = least + self.choose(greatest - least + 1)?;
-                (0..count).try_for_each(|_| self.execute(*body))
+                for _ in 0..count {
+                    self.execute(*test)?;
+                    self.execute(*body)?;
+                }
+                self.execute(*test)
             }
         }
     }

@@ -172,8 +172,10 @@ fn main() {
     let with_lines: usize = graphs.iter().map(Graph::with_lines).sum();
     let with_pairs: usize = graphs.iter().map(Graph::with_pairs).sum();
     let with_entry: usize = graphs.iter().map(Graph::with_entry).sum();
+    let with_tests: usize = graphs.iter().map(Graph::with_tests).sum();
     let shared = graphs.iter().filter(|graph| graph.shared()).count();
     println!("images of graphs with lines: {with_lines}; with tag 8: {with_entry}; with tag 9: {with_pairs}");
+    println!("images of graphs with a test that is not plain 0: {with_tests}");
     println!("graphs with tag 9 for several cores: {shared}");
     println!(
         "graphs with a task that ended late: {} of {}; with one start listed: {} of {}",
@@ -183,7 +185,7 @@ fn main() {
     let half = accepted * 10 >= summary.random * 4 && accepted * 10 <= summary.random * 7;
     let every_place = summary.refused.len() == MOST_TASKS;
     let clocks = summary.by_cycles >= 1_000 && summary.longest >= 1_000;
-    let images = with_lines >= 300 && with_entry >= 300 && with_pairs >= 300 && shared >= 50;
+    let images = [with_lines, with_entry, with_pairs, with_tests].into_iter().all(|images| images >= 300) && shared >= 50;
     let met = half && images && summary.sizes.len() == MOST_TASKS && every_place && clocks;
     // the control that a late task is seen
     let seen = summary.one.0 > 0;

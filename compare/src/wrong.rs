@@ -13,6 +13,10 @@ use std::process::{abort, exit};
 
 const FAULTS: &str = include_str!("../wrong/faults.txt");
 
+/// What a fault makes of a test alone: its accesses do not wait, its loops have no tests.
+const NO_WAIT: &str = "waitless";
+const NO_TESTS: &str = "testless";
+
 /// Without a name it is none.
 #[derive(Default)]
 struct Fault(String);
@@ -37,7 +41,15 @@ struct Node {
     /// durations, or counts of a loop
     low: u64,
     high: u64,
+    /// of a loop its body and its test
     children: Vec<usize>,
+}
+
+impl Node {
+    /// A loop's body and test.
+    fn parts(&self) -> [Option<usize>; 2] {
+        [0, 1].map(|part| self.children.get(part).copied())
+    }
 }
 
 #[derive(Clone, Default)]
@@ -290,7 +302,7 @@ fn judge(fault: &Fault, bytes: &[u8]) -> Result<Image, Refusal> {
         // a cut body is filled up, so that it can be judged in another order
         let mut body: Vec<u8> = rest[3..].iter().copied().take(length).collect();
         let there = body.len();
-        body.resize(length.max(6), 0);
+        body.resize(length.max(8), 0);
         let nodes_most = match fault.0.as_str() {
             "node-256-refused" => 255,
             "node-257-accepted" => 257,
@@ -317,8 +329,9 @@ fn judge(fault: &Fault, bytes: &[u8]) -> Result<Image, Refusal> {
                 Length => (4, !length_good(fault, tag, length)),
                 Cut => (1, there < length),
                 Value if tag == 9 && fault.is("schedule-value-as-length") => (4, !schedule_good(fault, &body, length)),
-                Value => (5, !value_good(fault, &image, tag, &body[..length.max(6)], length)),
-                Forward => (6, !children_good(fault, image.nodes.len() as u64, tag, &body, length)),
+                Value if tag == 7 && early_child_bad(fault, &image, &body, length) => (6, true),
+                Value => (5, !value_good(fault, &image, tag, &body[..length.max(8)], length)),
+                Forward => (6, !children_good(fault, &image, tag, &body, length)),
                 Entry => (11, tag == 8 && !fault.is("entry-judged-at-end") && !entry_good(fault, &image, &body, length)),
             };
             if holds && refusal == 11 {
@@ -328,6 +341,10 @@ fn judge(fault: &Fault, bytes: &[u8]) -> Result<Image, Refusal> {
                 put_off = put_off.or(Some((refusal, shown)));
             } else if holds && refusal == 5 && tag == 9 && fault.is("schedule-place-of-pair") {
                 return Err((refusal, shown + 4 + 2 * bad_pair(&body, length)));
+            } else if holds && refusal == 6 && tag == 7 && fault.is("test-as-value") && test_bad(&image, &body, length) {
+                return Err((5, shown));
+            } else if holds && refusal == 6 && tag == 7 && fault.is("test-place-of-number") && test_bad(&image, &body, length) {
+                return Err((refusal, shown + 9));
             } else if holds {
                 return Err((refusal, shown));
             }
@@ -348,6 +365,7 @@ fn judge(fault: &Fault, bytes: &[u8]) -> Result<Image, Refusal> {
             _ => {
                 let (low, high) = match tag {
                     4 | 10 => (body[1].into(), body[2].into()),
+                    7 => counts(fault, &body),
                     _ => (two_bytes(fault, &body), two_bytes(fault, &body[2..])),
                 };
                 let own = image.nodes.len();
@@ -366,12 +384,20 @@ fn judge(fault: &Fault, bytes: &[u8]) -> Result<Image, Refusal> {
                 }
             }
         }
-        place += if tag == 9 && fault.is("starts-at-6") { 6 } else { 3 + length };
+        place += match tag {
+            9 if fault.is("starts-at-6") => 6,
+            7 if fault.is("loop-of-9-bytes") => 9,
+            _ => 3 + length,
+        };
         // a second field 1, which a fault let through, stands in place of the first
         number += usize::from(number != 1 || tag != 1 && tag != 9);
     }
     if image.nodes.is_empty() {
         return Err((7, if fault.is("place-of-unfinished") { 0 } else { bytes.len() }));
+    }
+    let absent = |node: &&Node| node.tag == 7 && node.parts()[1].is_some_and(|test| test >= image.nodes.len());
+    if let (Some(node), true) = (image.nodes.iter().find(absent), fault.is("test-judged-at-end")) {
+        return Err((6, node.place));
     }
     if image.starts.is_empty() {
         image.starts.push(0);
@@ -546,7 +572,16 @@ fn length_good(fault: &Fault, tag: u8, length: usize) -> bool {
         5 => length >= 2 && length <= 32 && length % 2 == 0,
         6 if fault.is("one-arm") => length >= 2 && length <= 16 && length % 2 == 0,
         6 => length >= 4 && length <= 16 && length % 2 == 0,
-        7 => length == 6,
+        7 => match fault.0.as_str() {
+            "loop-length-6" => length == 6 || length == 8,
+            "loop-length-6-only" => length == 6,
+            "loop-length-7" => length == 7 || length == 8,
+            "loop-length-9" => length == 8 || length == 9,
+            "loop-length-10" => length == 8 || length == 10,
+            "loop-length-in-a-byte" => length % 256 == 8,
+            "loop-any-length" => length >= 8,
+            _ => length == 8,
+        },
         8 => match fault.0.as_str() {
             "entry-length-1" => length == 1 || length == 2,
             "entry-length-3" => length == 2 || length == 3,
@@ -629,8 +664,9 @@ fn value_good(fault: &Fault, image: &Image, tag: u8, body: &[u8], length: usize)
             line && hit && (range || fault.is("fetch-range-unjudged"))
         }
         7 => {
-            (two(0) <= two(2) || fault.is("least-above-greatest"))
-                && two(2) <= if fault.is("count-10001") { 10_001 } else { 10_000 }
+            let (least, greatest) = counts(fault, body);
+            (least <= greatest || fault.is("least-above-greatest"))
+                && greatest <= if fault.is("count-10001") { 10_001 } else { 10_000 }
         }
         _ => true,
     }
@@ -821,24 +857,99 @@ fn longest(fault: &Fault, image: &Image) -> u64 {
 fn named(fault: &Fault, tag: u8, body: &[u8], length: usize) -> Vec<u64> {
     let places: Vec<usize> = match tag {
         5 | 6 => (0..length / 2).map(|child| 2 * child).collect(),
-        7 => vec![4],
+        // a loop without a test
+        7 if length == 6 => vec![4],
+        7 => match fault.0.as_str() {
+            "test-and-body-exchanged" => vec![6, 4],
+            "loop-children-first" => vec![0, 2],
+            "test-is-body" => vec![4, 4],
+            "body-is-test" => vec![6, 6],
+            _ => vec![4, 6],
+        },
         _ => Vec::new(),
     };
     let whole = places.iter().map(|&place| two_bytes(fault, &body[place..]));
-    whole.map(|child| if fault.is("child-in-a-byte") { child % 256 } else { child }).collect()
+    let mut all: Vec<u64> = whole.map(|child| if fault.is("child-in-a-byte") { child % 256 } else { child }).collect();
+    if let ([_, test], 7) = (&mut all[..], tag) {
+        *test = match fault.0.as_str() {
+            "test-in-a-byte" => *test % 256,
+            "test-of-high-byte" => *test / 256,
+            "test-low-byte-first" => *test % 256 * 256 + *test / 256,
+            "test-from-1" => test.saturating_sub(1),
+            "test-in-7-bits" => {
+                if *test < 256 {
+                    *test % 128
+                } else {
+                    *test
+                }
+            }
+            _ => *test,
+        };
+    }
+    all
 }
 
-fn children_good(fault: &Fault, own: u64, tag: u8, body: &[u8], length: usize) -> bool {
+/// Least and greatest count of a loop.
+fn counts(fault: &Fault, body: &[u8]) -> (u64, u64) {
+    let first = if fault.is("loop-children-first") { 4 } else { 0 };
+    (two_bytes(fault, &body[first..]), two_bytes(fault, &body[first + 2..]))
+}
+
+/// Whether a loop's body is a node below it and its test is not.
+fn test_bad(image: &Image, body: &[u8], length: usize) -> bool {
+    let own = image.nodes.len() as u64;
+    matches!(named(&Fault::default(), 7, body, length)[..], [body, test] if body < own && test >= own)
+}
+
+/// Whether a child number of a loop is at fault and comes before 5.
+fn early_child_bad(fault: &Fault, image: &Image, body: &[u8], length: usize) -> bool {
+    let own = image.nodes.len() as u64;
+    let [body, test] = named(fault, 7, body, length)[..] else { return false };
+    match fault.0.as_str() {
+        "test-before-value" => test >= own,
+        "body-before-value" => body >= own,
+        _ => false,
+    }
+}
+
+fn children_good(fault: &Fault, image: &Image, tag: u8, body: &[u8], length: usize) -> bool {
+    let own = image.nodes.len() as u64;
     let mut children = named(fault, tag, body, length);
     if fault.is("last-child-unchecked") && tag == 5 {
         children.pop();
+    }
+    if let ([body_child, test], 7) = (&children[..], tag) {
+        let (body_child, test, greatest) = (*body_child, *test, counts(fault, body).1);
+        let kind = image.nodes.get(test as usize).map_or(0, |node| node.tag);
+        let both = body_child < own && test < own;
+        match fault.0.as_str() {
+            "test-unjudged" | "test-judged-at-end" => return body_child < own,
+            "test-judged-only" => return test < own,
+            "test-or-body-judged" => return body_child < own || test < own,
+            "test-equal" => return body_child < own && test <= own,
+            "body-equal" => return body_child <= own && test < own,
+            "test-below-256" => return body_child < own && test < 256,
+            "test-below-body" => return both && test < body_child,
+            "test-above-body" => return both && test > body_child,
+            "test-same-refused" => return both && test != body_child,
+            "test-last-refused" => return both && test + 1 < own,
+            "test-0-refused" => return both && test > 0,
+            "test-plain-only" => return both && kind == 3,
+            "test-block-only" => return both && [3, 4, 10].contains(&kind),
+            "test-bus-refused" => return both && kind != 4,
+            "test-fetch-refused" => return both && kind != 10,
+            "test-loop-refused" => return both && kind != 7,
+            "test-idle-unjudged" => return body_child < own && (test < own || greatest == 0),
+            "body-idle-unjudged" => return test < own && (body_child < own || greatest == 0),
+            _ => {}
+        }
     }
     children.iter().all(|&child| child < own || fault.is("child-equal") && child == own)
 }
 
 /// A child that a fault let through and that is not there to be executed counts nothing.
-fn of_child(values: &[u64], child: usize) -> u64 {
-    values.get(child).copied().unwrap_or(0)
+fn of_child<T: Copy + Default>(values: &[T], child: usize) -> T {
+    values.get(child).copied().unwrap_or_default()
 }
 
 fn deep(fault: &Fault, image: &Image) -> bool {
@@ -849,12 +960,21 @@ fn deep(fault: &Fault, image: &Image) -> bool {
     };
     let mut depths: Vec<u64> = Vec::new();
     for node in &image.nodes {
-        let idle = node.tag == 7 && node.high == 0 && fault.is("depth-without-idle-body");
         let below = node.children.iter().map(|&child| of_child(&depths, child)).max().unwrap_or(0);
+        let [body, test] = node.parts().map(|part| part.map_or(0, |part| of_child(&depths, part)));
+        let (looped, idle) = (node.tag == 7, node.tag == 7 && node.high == 0);
         let depth = match fault.0.as_str() {
             "fetch-depth-2" if node.tag == 10 => 2,
             "fetch-depth-0" if node.tag == 10 => 0,
-            _ => 1 + if idle { 0 } else { below },
+            "depth-without-idle-body" if idle => 1 + test,
+            "depth-without-idle-test" if idle => 1 + body,
+            "depth-without-idle-loop" if idle => 1,
+            "depth-without-test" if looped => 1 + body,
+            "depth-of-test-only" if looped => 1 + test,
+            "depth-of-test-beside" if looped => (1 + body).max(test),
+            "depth-of-test-below-body" if looped => 1 + body + test,
+            "depth-of-test-one-more" if looped => 1 + body.max(1 + test),
+            _ => 1 + below,
         };
         depths.push(if fault.is("depth-in-a-byte") { depth % 256 } else { depth });
     }
@@ -872,7 +992,7 @@ fn long(fault: &Fault, image: &Image) -> bool {
         "visits-100001-accepted" => 100_001,
         _ => 100_000,
     };
-    let mut visits: Vec<u64> = Vec::new();
+    let mut visits: Vec<u128> = Vec::new();
     for node in &image.nodes {
         let mut children: Vec<usize> = node.children.clone();
         if fault.is("visits-of-node-once") {
@@ -880,23 +1000,21 @@ fn long(fault: &Fault, image: &Image) -> bool {
             children.dedup();
         }
         let each = children.iter().map(|&child| of_child(&visits, child));
-        let largest = each.clone().max().unwrap_or(0);
-        let sum = each.fold(0, u64::wrapping_add);
         let below = match node.tag {
-            7 if fault.is("visits-of-idle-body") => node.high.max(1).wrapping_mul(sum),
-            7 => node.high.wrapping_mul(sum),
-            6 if fault.is("visits-of-largest-arm") => largest,
-            _ => sum,
+            7 => visits_of_loop(fault, node, &visits),
+            6 if fault.is("visits-of-largest-arm") => each.max().unwrap_or(0),
+            _ => each.sum(),
         };
         let all = match fault.0.as_str() {
             "fetch-visits-2" if node.tag == 10 => 2,
             "fetch-visits-0" if node.tag == 10 => 0,
-            _ => below.wrapping_add(1),
+            "visits-without-loop" if node.tag == 7 => below,
+            _ => below + 1,
         };
         visits.push(match fault.0.as_str() {
             "visits-32-bit" => all % (1 << 32),
-            "visits-64-bit" => all,
-            _ => all.min(1 << 40),
+            "visits-64-bit" => all % (1 << 64),
+            _ => all.min(1 << 100),
         });
     }
     match fault.0.as_str() {
@@ -904,6 +1022,32 @@ fn long(fault: &Fault, image: &Image) -> bool {
         "visits-to-entry" => visits[..=image.entry].iter().any(|&visits| visits > most),
         "visits-of-last" => visits[visits.len() - 1] > most,
         _ => visits[image.entry] > most,
+    }
+}
+
+/// The visits below a loop.
+fn visits_of_loop(fault: &Fault, node: &Node, visits: &[u128]) -> u128 {
+    let times = u128::from(node.high);
+    let [body, test] = node.parts().map(|part| part.map_or(0, |part| of_child(visits, part)));
+    let same = node.parts()[0] == node.parts()[1];
+    match fault.0.as_str() {
+        "visits-of-idle-body" => times.max(1) * body + (times + 1) * test,
+        "visits-of-node-once" if same => times * body + test,
+        "visits-without-tests" => times * body,
+        "visits-without-last-test" => times * (body + test),
+        "visits-of-one-test" => times * body + test,
+        "visits-without-idle-test" if times == 0 => 0,
+        "visits-of-last-body" => (times + 1) * (body + test),
+        "visits-of-last-body-only" => times * (body + test) + body,
+        "visits-of-tests-one-more" => times * (body + test) + 2 * test,
+        "visits-of-test-as-block" => times * (body + 1) + 1,
+        "visits-of-larger-part" => times * body.max(test) + test,
+        "visits-of-tests-only" => (times + 1) * test,
+        "visits-of-sum-32-bit" => times * ((body + test) % (1 << 32)) + test,
+        "visits-of-sum-64-bit" => times * ((body + test) % (1 << 64)) + test,
+        "visits-of-product-64-bit" => times * (body + test) % (1 << 64) + test,
+        "visits-of-last-test-64-bit" => times * (body + test) + test % (1 << 64),
+        _ => times * (body + test) + test,
     }
 }
 
@@ -968,6 +1112,9 @@ fn wait_in_pairs(fault: &Fault, image: &Image, offset: u64, e: u64) -> u64 {
 fn wait(fault: &Fault, image: &Image, offset: u64, e: u64) -> u64 {
     if fault.is("greatest-wait") {
         return image.period - image.slot + e - 1;
+    }
+    if fault.is(NO_WAIT) {
+        return 0;
     }
     if !image.stretches.is_empty() {
         return wait_in_pairs(fault, image, offset % image.period, e);
@@ -1214,46 +1361,164 @@ fn execute_node(fault: &Fault, image: &Image, number: usize, entry: &Times) -> T
             keep_slowest(fault, exits)
         }
         _ => {
-            let body = node.children[0];
-            if body >= number {
-                return entry.clone();
-            }
+            // a body or a test not below its own number, which a fault let through, is not executed
+            let [body, test] = node.parts().map(|part| part.filter(|&part| part < number));
+            let test = test.filter(|_| !fault.is("test-ignored"));
+            let mut tested = |times: &Times| match test {
+                Some(test) => execute_test(fault, image, (node, test), times, entry),
+                None => times.clone(),
+            };
+            let Some(body) = body else { return iterate(fault, image, number, entry, &mut Times::clone, &mut tested) };
             let inner = &image.nodes[body];
-            if fault.is("choice-kept") && inner.tag == 6 {
-                for &arm in &inner.children {
-                    for (state, time) in iterate(fault, node, entry, &mut |times| execute(fault, image, arm, times)) {
-                        keep(fault, &mut exits, state, time);
-                    }
+            let mut kept: Vec<Box<Step>> = Vec::new();
+            match inner.tag {
+                6 if fault.is("choice-kept") => kept.extend(arms(fault, image, inner)),
+                3 if fault.is("choice-kept") => kept.extend(durations(image, inner)),
+                _ => {}
+            }
+            for step in &mut kept {
+                for (state, time) in iterate(fault, image, number, entry, step, &mut tested) {
+                    keep(fault, &mut exits, state, time);
                 }
+            }
+            if !kept.is_empty() {
                 return exits;
             }
-            if fault.is("choice-kept") && inner.tag == 3 {
-                for duration in inner.low..=inner.high {
-                    let mut step = |times: &Times| {
-                        let passed = |((o, lines), time): (&State, &u64)| {
-                            (((o + duration) % image.period, lines.clone()), time + duration)
-                        };
-                        times.iter().map(passed).collect()
-                    };
-                    for (state, time) in iterate(fault, node, entry, &mut step) {
-                        keep(fault, &mut exits, state, time);
-                    }
+            let mut step = |times: &Times| execute(fault, image, body, times);
+            // the same for the test
+            if let Some(inner) = test.map(|test| &image.nodes[test]) {
+                match inner.tag {
+                    6 if fault.is("test-choice-kept") => kept.extend(arms(fault, image, inner)),
+                    3 if fault.is("test-choice-kept") => kept.extend(durations(image, inner)),
+                    _ => {}
                 }
+            }
+            for tested in &mut kept {
+                for (state, time) in iterate(fault, image, number, entry, &mut step, tested) {
+                    keep(fault, &mut exits, state, time);
+                }
+            }
+            if !kept.is_empty() {
                 return exits;
             }
-            keep_slowest(fault, iterate(fault, node, entry, &mut |times| execute(fault, image, body, times)))
+            keep_slowest(fault, iterate(fault, image, number, entry, &mut step, &mut tested))
         }
     }
 }
 
-/// The exits of a loop, given what one iteration does.
-fn iterate(fault: &Fault, node: &Node, entry: &Times, step: &mut dyn FnMut(&Times) -> Times) -> Times {
+/// What an execution of a body or of a test does.
+type Step<'a> = dyn FnMut(&Times) -> Times + 'a;
+
+/// The arms of a branch, each alone.
+fn arms<'a>(fault: &'a Fault, image: &'a Image, node: &'a Node) -> Vec<Box<Step<'a>>> {
+    let step = |arm: usize| Box::new(move |times: &Times| execute(fault, image, arm, times)) as Box<Step<'a>>;
+    node.children.iter().map(|&arm| step(arm)).collect()
+}
+
+/// The durations of a plain block, each alone.
+fn durations<'a>(image: &'a Image, node: &Node) -> Vec<Box<Step<'a>>> {
+    let step = |duration: u64| {
+        Box::new(move |times: &Times| {
+            let passed = |((o, lines), time): (&State, &u64)| (((o + duration) % image.period, lines.clone()), time + duration);
+            times.iter().map(passed).collect()
+        }) as Box<Step<'a>>
+    };
+    (node.low..=node.high).map(step).collect()
+}
+
+/// An execution of a loop's test, from these times; the loop had those at its entry.
+fn execute_test(fault: &Fault, image: &Image, (node, test): (&Node, usize), times: &Times, entry: &Times) -> Times {
+    let with = |name: &str| execute(&Fault(name.to_string()), image, test, times);
+    let proper = |times: &Times| execute(fault, image, test, times);
+    // each state by itself, with these lines fetched; its own are kept
+    let with_lines = |lines: Set| {
+        let mut after = Times::new();
+        for ((offset, own), &time) in times {
+            for ((end, _), time) in proper(&[((*offset, lines.clone()), time)].into_iter().collect()) {
+                keep(fault, &mut after, (end, own.clone()), time);
+            }
+        }
+        after
+    };
+    match fault.0.as_str() {
+        "test-of-body-lost" if node.children[0] == test => times.clone(),
+        "test-not-plain-lost" if image.nodes[test].tag != 3 => times.clone(),
+        "test-not-block-lost" if !image.nodes[test].children.is_empty() => times.clone(),
+        "test-twice" => proper(&proper(times)),
+        "test-highest-only" => with("highest-only"),
+        "test-first-arm-only" => with("first-arm-only"),
+        "test-slowest-kept" => with("slowest-at-join"),
+        "test-worst-case" => with("block-worst-case"),
+        "test-greatest-only" => with("greatest-only"),
+        "test-never-waits" => with(NO_WAIT),
+        "test-without-tests" => with(NO_TESTS),
+        "test-forgets" => forget(fault, proper(times), times),
+        "test-lines-of-entry" => proper(&forget(fault, times.clone(), entry)),
+        "test-hits-always" => with_lines((0..4).collect()),
+        "test-misses-always" => with_lines(Set::new()),
+        _ => proper(times),
+    }
+}
+
+/// What goes on from k iterations to the next, and what ends with them, given what stands before the test that follows them.
+fn tested(fault: &Fault, image: &Image, number: usize, k: u64, before: Times, test: &mut Step) -> (Times, Times) {
+    let node = &image.nodes[number];
+    let is_body = || image.nodes.iter().any(|outer| outer.tag == 7 && outer.parts()[0] == Some(number));
+    let ends_before = match fault.0.as_str() {
+        "test-last-lost" => true,
+        "test-last-lost-but-0" => k > 0,
+        "test-last-lost-below-greatest" => k < node.high,
+        "test-last-lost-at-greatest" => k == node.high,
+        "test-at-0-lost" => k == 0,
+        "test-idle-lost" => node.high == 0,
+        "test-of-inner-loop-lost" => is_body(),
+        _ => false,
+    };
+    if ends_before {
+        return (test(&before), before);
+    }
+    match fault.0.as_str() {
+        // once before all iterations, or after all; not before the first
+        "test-once-first" if k > 0 => (before.clone(), before),
+        "test-lost-after-255" if k > 255 => (before.clone(), before),
+        "test-once-last" => {
+            let after = test(&before);
+            (before, after)
+        }
+        "test-at-the-foot" if k == 0 => (before.clone(), before),
+        "test-at-the-foot-but-0" if k == 0 => {
+            let after = test(&before);
+            (before, after)
+        }
+        "test-twice-at-last" => {
+            let after = test(&before);
+            let again = test(&after);
+            (after, again)
+        }
+        "test-before-or-after" => {
+            let after = test(&before);
+            let mut both = before;
+            after.iter().for_each(|(state, &time)| keep(fault, &mut both, state.clone(), time));
+            (after, both)
+        }
+        NO_TESTS => (before.clone(), before),
+        _ => {
+            let after = test(&before);
+            (after.clone(), after)
+        }
+    }
+}
+
+/// The exits of a loop, given what its body and its test do.
+fn iterate(fault: &Fault, image: &Image, number: usize, entry: &Times, step: &mut Step, test: &mut Step) -> Times {
+    let node = &image.nodes[number];
     let mut exits = Times::new();
     let mut times = entry.clone();
     if fault.is("first-iteration-times") && node.high > 0 {
         let longest = |times: &Times| times.values().copied().max().unwrap_or(0);
-        let first = step(entry);
-        let one = longest(&first).saturating_sub(longest(entry));
+        let head = test(entry);
+        let first = test(&step(&head));
+        let one = longest(&first).saturating_sub(longest(&head));
         return first.into_iter().map(|(state, time)| (state, time + one * (node.high - 1))).collect();
     }
     // so many iterations with the same gain are taken for a loop that repeats
@@ -1268,6 +1533,8 @@ fn iterate(fault: &Fault, node: &Node, entry: &Times, step: &mut dyn FnMut(&Time
         "greatest-only" => k == node.high,
         "fewer-count-too" => true,
         "count-0-lost" => k >= node.low && (k > 0 || node.high == 0),
+        // a count of tests: the body is executed once less; 0 counts as 1
+        "count-of-tests" => k + 1 >= node.low && (k < node.high || node.high == 0),
         _ => k >= node.low || k == node.high,
     };
     for k in 0..=node.high {
@@ -1278,13 +1545,15 @@ fn iterate(fault: &Fault, node: &Node, entry: &Times, step: &mut dyn FnMut(&Time
         if k > 0 {
             times = step(&times);
         }
+        let (on, ended) = tested(fault, image, number, k, times, test);
+        times = on;
         // what each of the iterations left adds, where a fault takes the last for one that repeats
         let gained = before.and_then(|before| gained(&before, &listed(fault, &times)));
         same = if gained.is_some() && gained == same.1 { (same.0 + 1, gained) } else { (1, gained) };
         let gain = gained.filter(|_| same.0 >= repeats);
         for j in k..=if gain.is_some() { node.high } else { k } {
             if permitted(j) {
-                for (state, &time) in &times {
+                for (state, &time) in &ended {
                     keep(fault, &mut exits, state.clone(), time + gain.unwrap_or(0) * (j - k));
                 }
             }
@@ -1404,33 +1673,71 @@ fn cost(fault: &Fault, image: &Image, number: usize, entry: &BTreeSet<State>) ->
             (all, each.into_iter().flat_map(|(_, exits)| exits).collect())
         }
         _ => {
-            let body = node.children[0];
-            if body >= number {
-                return (0, entry.clone());
-            }
+            let [body, test] = node.parts().map(|part| part.filter(|&part| part < number));
+            let test = test.filter(|_| !fault.is("test-ignored"));
+            let of = |part: Option<usize>, set: &BTreeSet<State>| match part {
+                Some(part) => cost(fault, image, part, set),
+                None => (0, set.clone()),
+            };
             let mut sum = 0;
             let mut set = entry.clone();
             let mut joined = BTreeSet::new();
+            // the costs of the first test, and of the first iteration with the test behind it
+            let (mut head, mut first) = (0, 0);
             for k in 0..=node.high {
+                let before_body = set.clone();
+                let mut of_body = 0;
                 if k > 0 {
-                    let (one, exits) = cost(fault, image, body, &set);
-                    if !(fault.is("published-least-count") && k > node.low) {
-                        sum += one;
-                    }
-                    if fault.is("published-first-times") && k == 1 {
-                        sum = one * node.high;
-                    } else if fault.is("published-first-times") {
-                        sum -= one;
-                    }
+                    let (one, exits) = of(body, &set);
+                    of_body = one;
                     if fault.is("published-joined-loop") {
                         set.extend(exits);
                     } else {
                         set = exits;
                     }
                 }
-                if k >= node.low {
-                    joined.extend(set.iter().cloned());
+                let (one, after) = of(test, &set);
+                let of_test = match fault.0.as_str() {
+                    "published-test-of-entry" => of(test, entry).0,
+                    "published-test-before-body" => of(test, &before_body).0,
+                    "published-test-of-joined" => of(test, &(&joined | &set)).0,
+                    "published-without-tests" => 0,
+                    "published-first-test-lost" if k == 0 => 0,
+                    "published-last-test-lost" if k == node.high => 0,
+                    "published-last-test-twice" if k == node.high => 2 * one,
+                    "published-idle-test-lost" if node.high == 0 => 0,
+                    "published-one-test" if k > 0 => 0,
+                    "published-tests-to-255" if k > 255 => 0,
+                    "published-tests-of-least" if k > node.low => 0,
+                    "published-first-test-times" if k > 0 => head,
+                    "published-largest-test" => one.max(head),
+                    "published-test-or-body" => one.saturating_sub(of_body),
+                    _ => one,
+                };
+                match k {
+                    0 => head = of_test,
+                    1 => first = of_body + of_test,
+                    _ => {}
                 }
+                if !(fault.is("published-least-count") && k > node.low) {
+                    sum += of_body + of_test;
+                }
+                if k >= node.low {
+                    joined.extend(match fault.0.as_str() {
+                        "published-exits-before-test" => set.clone(),
+                        "published-0-is-entry" if k == 0 => set.clone(),
+                        "published-exits-around-test" => &set | &after,
+                        _ => after.clone(),
+                    });
+                }
+                match fault.0.as_str() {
+                    "published-body-before-test" => {}
+                    "published-body-around-test" => set.extend(after),
+                    _ => set = after,
+                }
+            }
+            if fault.is("published-first-times") {
+                sum = head + first * node.high;
             }
             (sum, joined)
         }

@@ -1,7 +1,7 @@
 //! Edits for `wrong --edits`: a line for each, as tests/linked/edits.c writes them, by the bytes of the image. It shares no code with
 //! the second reading either.
 
-use crate::{answer_lines, from_starts, judge, listed, of_first_stretch, published, Exits, Fault, Image, Said};
+use crate::{answer_lines, from_starts, judge, listed, of_first_stretch, published, Exits, Fault, Image, Node, Said};
 
 struct Edit {
     bytes: Vec<u8>,
@@ -45,6 +45,7 @@ fn nodes(fault: &Fault, bytes: &[u8]) -> Vec<(usize, u8)> {
         fields.push((place, bytes[place]));
         place += match fault.0.as_str() {
             "edits-starts-at-6" if place == 0 => 6,
+            "edits-loops-of-9-bytes" if bytes[place] == 7 => 9,
             _ => 3 + bytes[place + 1] as usize * 256 + bytes[place + 2] as usize,
         };
     }
@@ -57,6 +58,17 @@ fn nodes(fault: &Fault, bytes: &[u8]) -> Vec<(usize, u8)> {
 fn entry(edit: &Edit) -> Option<usize> {
     let image = judge(&Fault::default(), &edit.bytes).ok()?;
     Some(image.nodes[image.entry].place)
+}
+
+/// The tests of an accepted image's loops: each loop's field and its test's.
+fn tests(edit: &Edit) -> Vec<(usize, usize)> {
+    let Ok(image) = judge(&Fault::default(), &edit.bytes) else { return Vec::new() };
+    let all = image.nodes.iter().filter(|node| node.tag == 7);
+    all.map(|node| (node.place, image.nodes[node.children[1]].place)).collect()
+}
+
+fn is_test(edit: &Edit, place: usize) -> bool {
+    tests(edit).iter().any(|&(_, test)| test == place)
 }
 
 /// Whether tag 8 closes the image.
@@ -97,6 +109,10 @@ fn named(fault: &Fault, edit: &Edit) -> Option<(usize, u8)> {
         "edits-first-node-lost" => at(edit.node).filter(|_| edit.node > 0),
         "edits-last-node-lost" => at(edit.node).filter(|_| edit.node + 1 < count),
         "edits-node-255-lost" => at(edit.node).filter(|_| edit.node != 255),
+        "edits-loop-names-test" => at(edit.node).map(|named| {
+            let test = tests(edit).into_iter().find(|test| test.0 == named.0);
+            test.map_or(named, |(_, test)| (test, edit.bytes[test]))
+        }),
         "edits-next-plain-named" => {
             at(edit.node).and_then(|from| nodes.iter().find(|node| node.0 >= from.0 && node.1 == 3).copied())
         }
@@ -127,6 +143,8 @@ fn block_good(fault: &Fault, edit: &Edit, (place, tag): (usize, u8)) -> bool {
         "edits-entry-refused" => tag == 3 && entry(edit) != Some(place),
         "edits-named-entry-refused" => tag == 3 && !(has_entry(edit) && entry(edit) == Some(place)),
         "edits-above-entry-refused" => tag == 3 && entry(edit).is_none_or(|entry| place <= entry),
+        "edits-test-refused" => tag == 3 && !is_test(edit, place),
+        "edits-test-only" => tag == 3 && is_test(edit, place),
         _ => tag == 3,
     }
 }
@@ -292,7 +310,16 @@ fn own(fault: &Fault, edit: &Edit, preview: bool) -> Option<Refusal> {
             _ => {}
         }
     }
-    let (number, place) = judge(&Fault::default(), &edit.bytes).err()?;
+    // how the edit, or both, judge loops
+    let of_loops = match fault.0.as_str() {
+        "edits-loop-length-6" if !preview => "loop-length-6",
+        "edits-test-unjudged" if !preview => "test-unjudged",
+        "edits-test-before-value" => "test-before-value",
+        "edits-visits-without-tests" if !preview => "visits-without-tests",
+        "edits-depth-without-test" if !preview => "depth-without-test",
+        _ => "",
+    };
+    let (number, place) = judge(&Fault(of_loops.to_string()), &edit.bytes).err()?;
     let place = place as u64;
     match fault.0.as_str() {
         "edits-entry-unjudged" if number == 11 && !preview => None,
@@ -389,6 +416,21 @@ fn written(fault: &Fault, edit: &Edit, refused: Option<Check>) -> Vec<u8> {
         }
         "edits-pairs-cleared" if bytes[0] == 9 => put(&mut after, 6, &[0, 0]),
         "edits-tag-8-unwritten" if has_entry(edit) => after = bytes.clone(),
+        "edits-test-unwritten" if is_test(edit, place) => after = bytes.clone(),
+        "edits-tests-written-too" => {
+            let plain = tests(edit).into_iter().map(|(_, test)| test).filter(|&test| bytes[test] == 3);
+            plain.for_each(|test| put(&mut after, test + 3, &four(lowest, highest)));
+        }
+        "edits-body-written" => {
+            // the body of the loops whose test it is
+            let image = judge(&Fault::default(), bytes);
+            let of = |image: &Image| {
+                let own = |node: &&Node| node.tag == 7 && image.nodes[node.children[1]].place == place;
+                let bodies = image.nodes.iter().filter(own).map(|node| &image.nodes[node.children[0]]);
+                bodies.filter(|body| body.tag == 3).map(|body| body.place).collect::<Vec<_>>()
+            };
+            image.iter().flat_map(of).for_each(|body| put(&mut after, body + 3, &four(lowest, highest)));
+        }
         "edits-above-entry-unwritten" if entry(edit).is_some_and(|entry| place > entry) => after = bytes.clone(),
         "edits-entry-written" => {
             after = bytes.clone();
@@ -434,10 +476,19 @@ struct Figures {
     times: Exits,
 }
 
-fn figures(image: &Image) -> Figures {
-    let none = Fault::default();
-    let times = listed(&none, &from_starts(&none, image, &image.starts));
-    let published = published(&none, image, &image.starts).0;
+fn figures(fault: &Fault, image: &Image) -> Figures {
+    // what is wrong with the figures of an image
+    let within = match fault.0.as_str() {
+        "edits-preview-last-test-lost" => "test-last-lost",
+        "edits-preview-idle-test-lost" => "test-idle-lost",
+        "edits-preview-test-once" => "test-once-first",
+        "edits-preview-test-forgets" => "test-forgets",
+        "edits-preview-cost-without-tests" => "published-without-tests",
+        _ => "",
+    };
+    let within = Fault(within.to_string());
+    let times = listed(&within, &from_starts(&within, image, &image.starts));
+    let published = published(&within, image, &image.starts).0;
     Figures { tight: times.values().copied().max().unwrap_or(0), published, exits: times.len(), times }
 }
 
@@ -457,6 +508,8 @@ fn previewed(fault: &Fault, edit: &Edit) -> Result<Figures, (u64, usize)> {
             "edits-preview-lowest-kept" => (old.0.min(new.1), new.1),
             "edits-preview-joined" => (old.0.min(new.0), old.1.max(new.1)),
             "edits-preview-unedited" => old,
+            "edits-preview-test-unedited" if is_test(edit, node.place) => old,
+            "edits-preview-test-idle" if is_test(edit, node.place) => (0, 0),
             _ => new,
         };
     }
@@ -468,8 +521,8 @@ fn previewed(fault: &Fault, edit: &Edit) -> Result<Figures, (u64, usize)> {
         "edits-preview-of-block" if image.named.is_some() => block.unwrap_or(image.entry),
         _ => image.entry,
     };
-    let mut new_figures = figures(&image);
-    let old_figures = figures(&before);
+    let mut new_figures = figures(fault, &image);
+    let old_figures = figures(fault, &before);
     match fault.0.as_str() {
         "edits-preview-unedited-tight" => new_figures.tight = old_figures.tight,
         "edits-preview-unedited-published" => new_figures.published = old_figures.published,
