@@ -34,7 +34,7 @@ pub record SkippedBy (n left : ℕ) (w : Watch) (cur cur' : List ℕ) (r : Watch
   pub size : length cur' ≡ length cur
   pub skips : (m : ℕ) × Skips left w m r × Shifted n cur (m * w .gain) cur'
 
--- what is kept before the first iteration: the entry, or nothing where the span is 0
+-- what is kept before the first iteration: what stands then, or nothing where the span is 0
 pub record KeptBy (n : ℕ) (t old old' : List ℕ) (span : ℕ) : Type 0 where
   pub size : length old' ≡ length old
   pub few : span ≤ 1

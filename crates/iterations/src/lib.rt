@@ -1,4 +1,4 @@
-// iterations: what a loop of the tight figure does between the walks of its body (document 01, "In a loop, iteration i + 1 starts from the whole
+// iterations: what a loop of the tight figure does between its iterations (document 01, "In a loop, iteration i + 1 starts from the whole
 // exit set of iteration i"), over lent tables of n places each.
 //
 // Promises: the exits before the first iteration (`BegunBy`) and after one more (`TurnedBy`) are those of the definition; what is seen of a loop
@@ -12,7 +12,7 @@ ghost use Rattle.cycles.specs.Cycles.{Small};
 ghost use Rattle.iterations.specs.Iterations.{Empty, BegunBy, TurnedBy, WatchedBy, SkippedBy, KeptBy};
 use cycles::Watch;
 
-// The exits before the first iteration: the entry's own where 0 is a permitted count, and else none.
+// The exits before the first iteration: what stands then, behind the first test, where 0 is a permitted count, and else none.
 pub fn before_first(n: usize, least: usize, t: &[u64], out: &mut [u64])
     requires { ⌜ (n ≤ length (now t)) × Empty n (now out) ⌝ }
     ensures { λ _. ⌜ (length (now (out .exit)) ≡ length (now (out .entry))) × BegunBy n least (now (t .entry)) (now (out .exit)) ⌝ }
@@ -22,7 +22,7 @@ pub fn before_first(n: usize, least: usize, t: &[u64], out: &mut [u64])
     }
 }
 
-// What is kept before the first iteration, and for how many: the entry, for one, but where at most one iteration is to come nothing is kept.
+// What is kept before the first iteration, and for how many: what stands then, for one, but where at most one iteration is to come nothing is kept.
 pub fn kept(n: usize, greatest: usize, t: &[u64], old: &mut [u64]) -> usize
     requires { ⌜ (n ≤ length (now t)) × (n ≤ length (now old)) ⌝ }
     ensures { λ r. ⌜ KeptBy n (now (t .entry)) (now (old .entry)) (now (old .exit)) r ⌝ }

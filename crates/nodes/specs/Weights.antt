@@ -23,8 +23,9 @@ pub record Together (s : List ℕ) (place count : ℕ) (r : Weight) : Type 0 whe
   pub long : min 100001 (r .visits) ≡ min 100001 (visitsAll (childTrees s place count))
   pub most : r .visits ≤ 100001 * count
 
--- r is the greater depth of a loop's body and test, and the visits of all its iterations with all their tests, exact up to 100,000
-pub record Turning (s : List ℕ) (l : Loop) (r : Weight) : Type 0 where
+-- r is the greater depth of a loop's body and test, up to 25, and the visits of all its iterations and of all its tests, the first included, exact up to
+-- 100,000
+pub record OverTurns (s : List ℕ) (l : Loop) (r : Weight) : Type 0 where
   pub deep : r .depth ≡ min 25 (max (depth (treeAt s (l .body))) (depth (treeAt s (l .test))))
   pub long : min 100001 (r .visits)
       ≡ min 100001 (l .greatest * (visited (treeAt s (l .body)) + visited (treeAt s (l .test))) + visited (treeAt s (l .test)))

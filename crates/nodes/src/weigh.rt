@@ -5,7 +5,7 @@ ghost use Prim.Native.Nat.{_+_, _-_, _*_, _≤_, _<_, min, max};
 ghost use Rattle.rows.specs.Unclosed.{Unclosed};
 ghost use Rattle.rows.specs.Rules.{NamesBelow};
 ghost use Rattle.nodes.specs.Fine.{Standing, Placed};
-ghost use Rattle.nodes.specs.Weights.{Weighed, Together, Turning, Weighs};
+ghost use Rattle.nodes.specs.Weights.{Weighed, Together, OverTurns, Weighs};
 use crate::Loop;
 use crate::Node;
 use crate::node_at;
@@ -56,7 +56,7 @@ fn over_children(
     }
 }
 
-// The iterations of a loop, node n, with all their tests and the first: the greater depth of body and test, up to 25, and their visits, exact up to 100,000.
+// The iterations and all tests of a loop, node n: the greater depth of body and test, up to 25, and their visits, exact up to 100,000.
 fn over_turns(
     image: &[u8],
     l: Loop,
@@ -65,7 +65,7 @@ fn over_turns(
     visits: &[usize; 256],
 ) -> Weight
     requires { ⌜ (l .greatest ≤ 10000) × (l .body < n) × (l .test < n) × (n ≤ 256) × (Weighed (now image) n (now depths) (now visits)) ⌝ }
-    ensures { λ r. ⌜ Turning (now (image .entry)) l r ⌝ }
+    ensures { λ r. ⌜ OverTurns (now (image .entry)) l r ⌝ }
 {
     let body = l.body;
     let test = l.test;

@@ -2,8 +2,9 @@
 //
 // Promise: `walk` gives the exits and the cost that `exits` and `cost` of crates/runs/specs/Figures.antt name for the node.
 // Definitions: specs/Steps.antt, over crates/runs/specs and crates/exits/specs/Exits.antt.
-// The node number falls at each descent; where a loop is unrolled, the pair of node number and iterations left falls: the iterations
-// are taken in two halves, so the stack grows with the logarithm of the count.
+// The node number falls at each descent. A loop is its test, and then iterations of body and test (document 02, W3); where it is unrolled, the
+// pair of the larger of their numbers and the iterations left falls: the iterations are taken in two halves, so the stack grows with the
+// logarithm of the count.
 // A loop whose exit sets have become periodic (after `cycle` iterations the set is the same again, and they cost `gain`) is not walked to its
 // end: the unroller stops there, whole cycles are skipped, and the rest is walked.
 ghost use mathlib.Core.Path.{_≡_};
@@ -96,7 +97,7 @@ fn once_outcome(b: Bus, x: Once, s: Set) -> Outcome
     }
 }
 
-// Before the first iteration: the exits are the entry's own where 0 is a permitted count, and else none.
+// Before the first iteration: the exits are what stands then, behind the first test, where 0 is a permitted count, and else none.
 fn before_first(least: usize, s: Set) -> Pass
     ensures { λ r. ⌜ ((b : Bus) → BegunAt b least s r) ⌝ }
 {

@@ -91,7 +91,7 @@ unfoldable pub below : List ℕ → ℕ → ℕ → ℕ → Bool
 below s place zero index = true
 below s place (suc n) index = ltb (wordAt s place + 2) index && below s (place + 2) n index
 
--- rows 5, 6 and 7: the body is child numbers, and of a loop the third number and the fourth
+-- rows 5 and 6: the body is child numbers; row 7: its third and its fourth number
 unfoldable pub childrenOk : List ℕ → ℕ → ℕ → ℕ → ℕ → Bool
 childrenOk s tag body n index =
     cond (within 5 6 tag) (below s body (n / 2) index)

@@ -1,4 +1,4 @@
-// rows: the rows of the table in 'The task image' of document 01, and of those that document 02 adds: which tag may stand where (number 2), how many
+// rows: the rows of the table in 'The task image' of document 01, and of those that document 02 adds or alters (7, W3): which tag may stand where (number 2), how many
 // node fields (3), the body's length (4), the rules of its numbers (5), its child numbers (6) and the entry that it names (11).
 //
 // Each function promises that its answer equals a test of specs/Tests.antt; that the test is true if and only if the row's rule holds, in plain terms

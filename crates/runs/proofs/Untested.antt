@@ -11,14 +11,15 @@ use native.Mathlib.Omega.{arith}
 use native.Mathlib.Nat.{add-zero, zero-add, not-suc-le-zero}
 use Prim.Native.Nat.{ℕ, zero, suc, _+_, _-_, _<_}
 use Rattle.runs.specs.Bus.{Bus}
-use Rattle.runs.specs.Clock.{Places, State, Turning, offsets, pass}
+use Rattle.runs.specs.Clock.{Places, State, Turning, offsets, withLines, pass}
 use Rattle.runs.specs.Nodes.{Node, Tree, Trees, plain, bus, once, sequence, branch, loop, none as done, more}
 use Rattle.runs.specs.Runs.{Does, DoesTimes, passes, may-pass, accesses, first-time, later-time, in-order, one-of, repeats, enough, again}
 use Rattle.runs.specs.Carried.{row, iterate, joinBelow, joinFrom, moved, carried, carriedAll}
 use Rattle.runs.specs.Figures.{Time, later, longer, times, exits, cost}
-use Rattle.runs.specs.Untested.{Iterates, none, again as once-more, Repeats, repeated, repeatedCost}
+use Rattle.runs.specs.Untested.{Iterates, none, again as once-more, Untested, untested, untestedCost}
 use Rattle.runs.proofs.Cases.{split}
 use Rattle.runs.proofs.OffsetsLaws.{offsets-turn}
+use Rattle.runs.proofs.LinesLaws.{lines-turn}
 use Rattle.runs.proofs.Joins.{Joining, longer-joins, or-joins, row-length, row-same, below-same, below-one, below-empty, sum-same}
 use Rattle.runs.proofs.Shifted.{later-zero}
 
@@ -77,7 +78,7 @@ module _ (b : Bus) (q : Places) (nodeAt : ℕ → Node) (n least greatest body t
   tested-times (once-more rs r) = again (tested-times rs) r (testing _)
 
   -- its runs are those of the loop without a test
-  pub untested-runs : (s s' : State) → Does b q nodeAt n s s' → Repeats b q nodeAt least greatest body s s'
+  pub untested-runs : (s s' : State) → Does b q nodeAt n s s' → Untested b q nodeAt least greatest body s s'
   untested-runs s s' (repeats l g o t k e i j r) =
       let low : l ≡ least = cc in
       let high : g ≡ greatest = cc in
@@ -92,7 +93,7 @@ module _ (b : Bus) (q : Places) (nodeAt : ℕ → Node) (n least greatest body t
   untested-runs s s' (in-order ns e r) = absurd (only-loop e)
   untested-runs s s' (one-of ns m e i r) = absurd (only-loop e)
 
-  pub tested-runs : (s s' : State) → Repeats b q nodeAt least greatest body s s' → Does b q nodeAt n s s'
+  pub tested-runs : (s s' : State) → Untested b q nodeAt least greatest body s s' → Does b q nodeAt n s s'
   tested-runs s s' (k, i, j, r) = repeats least greatest body test k is i j (tested-times r)
 
 -- ---- tables, of times and of offsets, of one value for each place, as all tables of a walk are
@@ -162,27 +163,34 @@ module _ (b : Bus) (q : Places) (turn : Turning (b .period) q) {X : Type 0} (emp
         (ap G e ∙ left-alone (F (iterate F k T)) m, m)
 
     pub carried-untested : (least greatest : ℕ)
-        → carried b q empty join later (Tree.loop least greatest body idle) T ≡ repeated b q empty join later least greatest body T
+        → carried b q empty join later (Tree.loop least greatest body idle) T ≡ untested b q empty join later least greatest body T
     unfolding carried joinFrom
     carried-untested least greatest =
         row-same (q .size) _ _ (λ o l.
         below-same empty join law (suc greatest - least) _ _ (λ i m. ap (λ (U : List X). getD U o empty) (turns-untested (least + i) .0)))
 
 -- the times
-pub times-idle : (b : Bus) (q : Places) → Turning (b .period) q → (T : List Time) → length T ≡ q .size → times b q idle T ≡ T
-times-idle b q turn T h = left-alone b q turn noTime longer longer-joins later later-zero T h
+module _ (b : Bus) (pos : 0 < b .period) (n : ℕ) where
+  abbrev q : Places
+  q = withLines (b .period) n
 
-pub times-untested : (b : Bus) (q : Places) → Turning (b .period) q → (least greatest : ℕ) (body : Tree) (T : List Time) → length T ≡ q .size
-    → times b q (Tree.loop least greatest body idle) T ≡ repeated b q noTime longer later least greatest body T
-times-untested b q turn least greatest body T h =
-    carried-untested b q turn noTime longer longer-joins later later-zero body T h least greatest
+  pub times-long : (t : Tree) (T : List Time) → length T ≡ q .size → length (times b q t T) ≡ q .size
+  times-long t T h = long b q (lines-turn (b .period) pos n) noTime longer longer-joins later later-zero t T h
+
+  pub times-idle : (T : List Time) → length T ≡ q .size → times b q idle T ≡ T
+  times-idle T h = left-alone b q (lines-turn (b .period) pos n) noTime longer longer-joins later later-zero T h
+
+  pub times-untested : (least greatest : ℕ) (body : Tree) (T : List Time) → length T ≡ q .size
+      → times b q (Tree.loop least greatest body idle) T ≡ untested b q noTime longer later least greatest body T
+  times-untested least greatest body T h =
+      carried-untested b q (lines-turn (b .period) pos n) noTime longer longer-joins later later-zero body T h least greatest
 
 -- the published exits, and the cost
 module _ (b : Bus) (pos : 0 < b .period) (least greatest : ℕ) (body : Tree) (X : List Bool) (h : length X ≡ b .period) where
-  pub exits-untested : exits b (Tree.loop least greatest body idle) X ≡ repeated b (offsets (b .period)) false _||_ (λ d v. v) least greatest body X
+  pub exits-untested : exits b (Tree.loop least greatest body idle) X ≡ untested b (offsets (b .period)) false _||_ (λ d v. v) least greatest body X
   exits-untested = carried-untested b (offsets (b .period)) (offsets-turn (b .period) pos) false _||_ or-joins (λ d v. v) (λ v. refl) body X h least greatest
 
-  pub cost-untested : cost b (Tree.loop least greatest body idle) X ≡ repeatedCost b greatest body X
+  pub cost-untested : cost b (Tree.loop least greatest body idle) X ≡ untestedCost b greatest body X
   unfolding cost
   cost-untested =
       zero-add _

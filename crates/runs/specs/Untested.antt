@@ -17,14 +17,14 @@ module _ (b : Bus) (q : Places) (nodeAt : ℕ → Node) where
     none : {s : State} → Iterates body zero s s
     again : {k : ℕ} {s m s' : State} → Iterates body k s m → Does b q nodeAt body m s' → Iterates body (suc k) s s'
 
-  abbrev pub Repeats : ℕ → ℕ → ℕ → State → State → Type 0
-  Repeats least greatest body s s' = (k : ℕ) × (least ≤ k) × (k ≤ greatest) × Iterates body k s s'
+  abbrev pub Untested : ℕ → ℕ → ℕ → State → State → Type 0
+  Untested least greatest body s s' = (k : ℕ) × (least ≤ k) × (k ≤ greatest) × Iterates body k s s'
 
 -- "iteration i + 1 starts from the whole exit set of iteration i"; "the exit set joins those after k iterations for every permitted k"
-abbrev pub repeated : Bus → (q : Places) → {X : Type 0} → X → (X → X → X) → (ℕ → X → X) → ℕ → ℕ → Tree → List X → List X
-repeated b q empty join later least greatest body T =
+abbrev pub untested : Bus → (q : Places) → {X : Type 0} → X → (X → X → X) → (ℕ → X → X) → ℕ → ℕ → Tree → List X → List X
+untested b q empty join later least greatest body T =
     row (q .size) (λ p. joinFrom empty join least greatest (λ k. getD (iterate (carried b q empty join later body) k T) p empty))
 
 -- "the cost is the sum over the greatest count"
-abbrev pub repeatedCost : Bus → ℕ → Tree → List Bool → ℕ
-repeatedCost b greatest body X = sum greatest (λ i. cost b body (iterate (exits b body) i X))
+abbrev pub untestedCost : Bus → ℕ → Tree → List Bool → ℕ
+untestedCost b greatest body X = sum greatest (λ i. cost b body (iterate (exits b body) i X))

@@ -8,7 +8,7 @@ use Rattle.runs.specs.Schedules.{owning}
 use Rattle.runs.specs.Clock.{withLines}
 use Rattle.runs.specs.Nodes.{Tree}
 use Rattle.runs.proofs.Joins.{row-length}
-use Rattle.runs.proofs.LinesLaws.{power-pos, add-in, lines-turn}
+use Rattle.runs.proofs.LinesLaws.{power-pos, add-in}
 use Rattle.runs.proofs.Untested.{times-idle}
 use Rattle.bus.specs.Owning.{busMeant}
 use Rattle.image.specs.declared.Walk.{Walk}
@@ -26,8 +26,7 @@ idle-walks k lo hi t (n, h) e =
       size = refl;
       steps =
           rw (z, e)
-          (sym (times-idle (busMeant (k .bus)) (withLines (k .bus .period) (k .outline .lines))
-          (lines-turn (k .bus .period) (h .sized .fit .least) (k .outline .lines)) (table k t) (row-length (sizeOf k) _)));
+          (sym (times-idle (busMeant (k .bus)) (h .sized .fit .least) (k .outline .lines) (table k t) (row-length (sizeOf k) _)));
     }
 
 -- a set without a line has one with it

@@ -3,8 +3,9 @@
 //
 // Promise: after `walk` the lent array holds the table of longest times that `times` of crates/runs/specs/Figures.antt gives for the node.
 // Definitions: specs/Steps.antt, over crates/runs/specs, crates/times/specs/Arrays.antt and crates/lined/specs/Lined.antt.
-// The node number falls at each descent; where a loop is unrolled, the pair of node number and iterations left falls: the iterations
-// are taken in two halves, so the stack grows with the logarithm of the count. Arrays are lent down the walk, not copied; those that a join or
+// The node number falls at each descent. A loop is its test, and then iterations of body and test (document 02, W3); where it is unrolled, the
+// pair of the larger of their numbers and the iterations left falls: the iterations are taken in two halves, so the stack grows with the
+// logarithm of the count. Arrays are lent down the walk, not copied; those that a join or
 // a loop keeps have 256 places, and 1,024 only where the image has lines.
 // A loop whose times have become periodic (after `cycle` iterations every time is `gain` cycles later) is not walked to its end: the
 // unroller stops there, whole cycles are skipped by one addition, and the rest is walked.
@@ -171,7 +172,7 @@ fn repeat(image: &[u8], places: &[usize; 256], k: Walk, node: usize, l: Loop, t:
 {
     walk(image, places, k, l.test, t);
     if 1 < k.outline.sets {
-        wide_repeat(image, places, k, node, l, t);
+        wide_turns(image, places, k, node, l, t);
         return;
     }
     let mut exits = [18446744073709551615u64; 256];
@@ -180,7 +181,7 @@ fn repeat(image: &[u8], places: &[usize; 256], k: Walk, node: usize, l: Loop, t:
 }
 
 // The iterations where the image has lines.
-fn wide_repeat(image: &[u8], places: &[usize; 256], k: Walk, node: usize, l: Loop, t: &mut [u64])
+fn wide_turns(image: &[u8], places: &[usize; 256], k: Walk, node: usize, l: Loop, t: &mut [u64])
     requires { ⌜ ReadyRepeat (now image) k (now places) node l 0 (now t) ⌝ }
     ensures { λ _. ⌜ Repeated k (turnTrees (now (image .entry)) (l .body) (l .test)) (l .least) (l .greatest) (now (t .entry)) (now (t .exit)) ⌝ }
 {

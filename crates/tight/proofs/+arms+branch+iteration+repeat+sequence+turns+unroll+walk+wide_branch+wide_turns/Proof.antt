@@ -24,34 +24,34 @@ use borrow.Fn.Kinds.{In}
 use borrow.Fn.PlainCycle.{Measures, is, falls, and}
 use Rattle.tight.proofs.arms.Reads as arms
 use Rattle.tight.proofs.arms.Kinds as arms-kinds
-use Rattle.tight.proofs.+arms+branch+iteration+repeat+sequence+turns+unroll+walk+wide_branch+wide_repeat.Lts-arms as arms-lts
+use Rattle.tight.proofs.+arms+branch+iteration+repeat+sequence+turns+unroll+walk+wide_branch+wide_turns.Lts-arms as arms-lts
 use Rattle.tight.proofs.branch.Reads as branch
 use Rattle.tight.proofs.branch.Kinds as branch-kinds
-use Rattle.tight.proofs.+arms+branch+iteration+repeat+sequence+turns+unroll+walk+wide_branch+wide_repeat.Lts-branch as branch-lts
+use Rattle.tight.proofs.+arms+branch+iteration+repeat+sequence+turns+unroll+walk+wide_branch+wide_turns.Lts-branch as branch-lts
 use Rattle.tight.proofs.iteration.Reads as iteration
 use Rattle.tight.proofs.iteration.Kinds as iteration-kinds
-use Rattle.tight.proofs.+arms+branch+iteration+repeat+sequence+turns+unroll+walk+wide_branch+wide_repeat.Lts-iteration as iteration-lts
+use Rattle.tight.proofs.+arms+branch+iteration+repeat+sequence+turns+unroll+walk+wide_branch+wide_turns.Lts-iteration as iteration-lts
 use Rattle.tight.proofs.repeat.Reads as repeat
 use Rattle.tight.proofs.repeat.Kinds as repeat-kinds
-use Rattle.tight.proofs.+arms+branch+iteration+repeat+sequence+turns+unroll+walk+wide_branch+wide_repeat.Lts-repeat as repeat-lts
+use Rattle.tight.proofs.+arms+branch+iteration+repeat+sequence+turns+unroll+walk+wide_branch+wide_turns.Lts-repeat as repeat-lts
 use Rattle.tight.proofs.sequence.Reads as sequence
 use Rattle.tight.proofs.sequence.Kinds as sequence-kinds
-use Rattle.tight.proofs.+arms+branch+iteration+repeat+sequence+turns+unroll+walk+wide_branch+wide_repeat.Lts-sequence as sequence-lts
+use Rattle.tight.proofs.+arms+branch+iteration+repeat+sequence+turns+unroll+walk+wide_branch+wide_turns.Lts-sequence as sequence-lts
 use Rattle.tight.proofs.turns.Reads as turns
 use Rattle.tight.proofs.turns.Kinds as turns-kinds
-use Rattle.tight.proofs.+arms+branch+iteration+repeat+sequence+turns+unroll+walk+wide_branch+wide_repeat.Lts-turns as turns-lts
+use Rattle.tight.proofs.+arms+branch+iteration+repeat+sequence+turns+unroll+walk+wide_branch+wide_turns.Lts-turns as turns-lts
 use Rattle.tight.proofs.unroll.Reads as unroll
 use Rattle.tight.proofs.unroll.Kinds as unroll-kinds
-use Rattle.tight.proofs.+arms+branch+iteration+repeat+sequence+turns+unroll+walk+wide_branch+wide_repeat.Lts-unroll as unroll-lts
+use Rattle.tight.proofs.+arms+branch+iteration+repeat+sequence+turns+unroll+walk+wide_branch+wide_turns.Lts-unroll as unroll-lts
 use Rattle.tight.proofs.walk.Reads as walk
 use Rattle.tight.proofs.walk.Kinds as walk-kinds
-use Rattle.tight.proofs.+arms+branch+iteration+repeat+sequence+turns+unroll+walk+wide_branch+wide_repeat.Lts-walk as walk-lts
+use Rattle.tight.proofs.+arms+branch+iteration+repeat+sequence+turns+unroll+walk+wide_branch+wide_turns.Lts-walk as walk-lts
 use Rattle.tight.proofs.wide_branch.Reads as wide-branch
 use Rattle.tight.proofs.wide_branch.Kinds as wide-branch-kinds
-use Rattle.tight.proofs.+arms+branch+iteration+repeat+sequence+turns+unroll+walk+wide_branch+wide_repeat.Lts-wide_branch as wide-branch-lts
-use Rattle.tight.proofs.wide_repeat.Reads as wide-repeat
-use Rattle.tight.proofs.wide_repeat.Kinds as wide-repeat-kinds
-use Rattle.tight.proofs.+arms+branch+iteration+repeat+sequence+turns+unroll+walk+wide_branch+wide_repeat.Lts-wide_repeat as wide-repeat-lts
+use Rattle.tight.proofs.+arms+branch+iteration+repeat+sequence+turns+unroll+walk+wide_branch+wide_turns.Lts-wide_branch as wide-branch-lts
+use Rattle.tight.proofs.wide_turns.Reads as wide-turns
+use Rattle.tight.proofs.wide_turns.Kinds as wide-turns-kinds
+use Rattle.tight.proofs.+arms+branch+iteration+repeat+sequence+turns+unroll+walk+wide_branch+wide_turns.Lts-wide_turns as wide-turns-lts
 use Rattle.nodes.proofs.node_at.Reads as node-at-reads
 use Rattle.bytes.proofs.word.Reads as word-reads
 use Rattle.iterations.proofs.before_first.Reads as before-first-reads
@@ -65,10 +65,10 @@ use Rattle.iterations.proofs.skipped.Reads as skipped-reads
 use Rattle.iterations.proofs.watched.Reads as watched-reads
 use Rattle.times.proofs.copy.Reads as copy-reads
 use Rattle.times.proofs.join.Reads as join-reads
-use Rattle.tight.proofs.+arms+branch+iteration+repeat+sequence+turns+unroll+walk+wide_branch+wide_repeat.{
+use Rattle.tight.proofs.+arms+branch+iteration+repeat+sequence+turns+unroll+walk+wide_branch+wide_turns.{
   statement,
 }
-use Rattle.tight.proofs.+arms+branch+iteration+repeat+sequence+turns+unroll+walk+wide_branch+wide_repeat.Tie.{
+use Rattle.tight.proofs.+arms+branch+iteration+repeat+sequence+turns+unroll+walk+wide_branch+wide_turns.Tie.{
   close,
 }
 
@@ -101,8 +101,8 @@ abbrev μ-walk : Measures 3 walk-kinds.ps ℕ
 abbrev μ-wide-branch : Measures 3 wide-branch-kinds.ps ℕ
 μ-wide-branch κs a = 32768 * a .1 .1 .1 .0 + 1
 
-abbrev μ-wide-repeat : Measures 3 wide-repeat-kinds.ps ℕ
-μ-wide-repeat κs a = 32768 * a .1 .1 .1 .0 + 1
+abbrev μ-wide-turns : Measures 3 wide-turns-kinds.ps ℕ
+μ-wide-turns κs a = 32768 * a .1 .1 .1 .0 + 1
 
 abbrev arms-at : ℕ → In 5 arms-kinds.ps
 arms-at t = and 5 arms-kinds.ps (is 5 arms-kinds.ps μ-arms t) arms.Pre
@@ -162,13 +162,13 @@ abbrev wide-branch-below : ℕ → In 3 wide-branch-kinds.ps
 wide-branch-below t =
     and 3 wide-branch-kinds.ps (falls 3 wide-branch-kinds.ps _<_ μ-wide-branch t) wide-branch.Pre
 
-abbrev wide-repeat-at : ℕ → In 3 wide-repeat-kinds.ps
-wide-repeat-at t =
-    and 3 wide-repeat-kinds.ps (is 3 wide-repeat-kinds.ps μ-wide-repeat t) wide-repeat.Pre
+abbrev wide-turns-at : ℕ → In 3 wide-turns-kinds.ps
+wide-turns-at t =
+    and 3 wide-turns-kinds.ps (is 3 wide-turns-kinds.ps μ-wide-turns t) wide-turns.Pre
 
-abbrev wide-repeat-below : ℕ → In 3 wide-repeat-kinds.ps
-wide-repeat-below t =
-    and 3 wide-repeat-kinds.ps (falls 3 wide-repeat-kinds.ps _<_ μ-wide-repeat t) wide-repeat.Pre
+abbrev wide-turns-below : ℕ → In 3 wide-turns-kinds.ps
+wide-turns-below t =
+    and 3 wide-turns-kinds.ps (falls 3 wide-turns-kinds.ps _<_ μ-wide-turns t) wide-turns.Pre
 
 -- what the callees ask and give, at the measure t
 abbrev arms-claims : ℕ → arms-lts.Claims
@@ -203,8 +203,8 @@ abbrev repeat-claims : ℕ → repeat-lts.Claims
 repeat-claims t = (
   walk-below t,
   walk.Post,
-  wide-repeat-below t,
-  wide-repeat.Post,
+  wide-turns-below t,
+  wide-turns.Post,
   turns-below t,
   turns.Post,
 )
@@ -271,8 +271,8 @@ wide-branch-claims t = (
   arms.Post,
 )
 
-abbrev wide-repeat-claims : ℕ → wide-repeat-lts.Claims
-wide-repeat-claims t = (
+abbrev wide-turns-claims : ℕ → wide-turns-lts.Claims
+wide-turns-claims t = (
   turns-below t,
   turns.Post,
 )
@@ -445,17 +445,17 @@ repeat-walk-requires t c κs =
     let p = c .before .before .before .pre in
     (omega (arith, p .0, p .1 .below-test), first-ready (a .image .now) (a .k) (a .places .now) (a .node) (a .l) (a .t .now) (p .1))
 
-repeat-wide-repeat-requires : (t : ℕ) → repeat-lts.Need-wide-repeat-requires (repeat-claims t) (repeat-at t) repeat.Post
-repeat-wide-repeat-requires t c κs =
+repeat-wide-turns-requires : (t : ℕ) → repeat-lts.Need-wide-turns-requires (repeat-claims t) (repeat-at t) repeat.Post
+repeat-wide-turns-requires t c κs =
     let a = c .before .before .before .before .before .before .before .before .before .args in
     let p = c .before .before .before .before .before .before .before .before .before .pre in
     (omega (arith, p .0), turns-ready (a .image .now) (a .k) (a .places .now) (a .node) (a .l) (a .t .now) (p .1) _ (c .before .before .before .before .before .walk .ensures))
 
 repeat-same-length : (t : ℕ) → repeat-lts.Need-same-length (repeat-claims t) (repeat-at t) repeat.Post
-repeat-same-length t c = c .before .before .wide-repeat .ensures .size ∙ c .before .before .before .before .before .before .before .before .walk .ensures .size
+repeat-same-length t c = c .before .before .wide-turns .ensures .size ∙ c .before .before .before .before .before .before .before .before .walk .ensures .size
 
 repeat-returns : (t : ℕ) → repeat-lts.Need-returns (repeat-claims t) (repeat-at t) repeat.Post
-repeat-returns t c = as-loop _ _ _ _ _ _ _ _ _ refl (c .before .before .before .before .before .before .before .before .walk .ensures) (c .before .before .wide-repeat .ensures)
+repeat-returns t c = as-loop _ _ _ _ _ _ _ _ _ refl (c .before .before .before .before .before .before .before .before .walk .ensures) (c .before .before .wide-turns .ensures)
 
 repeat-slice-aggregate-turns : (t : ℕ) → repeat-lts.Need-slice-aggregate-turns (repeat-claims t) (repeat-at t) repeat.Post
 repeat-slice-aggregate-turns t c = search needs
@@ -855,30 +855,30 @@ wide-branch-same-length t c = c .before .before .before .before .arms .ensures .
 wide-branch-returns : (t : ℕ) → wide-branch-lts.Need-returns (wide-branch-claims t) (wide-branch-at t) wide-branch.Post
 wide-branch-returns t c = c .before .before .before .before .arms .ensures
 
--- ---- wide-repeat
+-- ---- wide-turns
 
-wide-repeat-slice-aggregate-turns : (t : ℕ) → wide-repeat-lts.Need-slice-aggregate-turns (wide-repeat-claims t) (wide-repeat-at t) wide-repeat.Post
-wide-repeat-slice-aggregate-turns t c = search needs
+wide-turns-slice-aggregate-turns : (t : ℕ) → wide-turns-lts.Need-slice-aggregate-turns (wide-turns-claims t) (wide-turns-at t) wide-turns.Post
+wide-turns-slice-aggregate-turns t c = search needs
 
-wide-repeat-slice-aggregate-turns-2 : (t : ℕ) → wide-repeat-lts.Need-slice-aggregate-turns-2 (wide-repeat-claims t) (wide-repeat-at t) wide-repeat.Post
-wide-repeat-slice-aggregate-turns-2 t c = search needs
+wide-turns-slice-aggregate-turns-2 : (t : ℕ) → wide-turns-lts.Need-slice-aggregate-turns-2 (wide-turns-claims t) (wide-turns-at t) wide-turns.Post
+wide-turns-slice-aggregate-turns-2 t c = search needs
 
-wide-repeat-turns-requires : (t : ℕ) → wide-repeat-lts.Need-turns-requires (wide-repeat-claims t) (wide-repeat-at t) wide-repeat.Post
-wide-repeat-turns-requires t c κs =
+wide-turns-turns-requires : (t : ℕ) → wide-turns-lts.Need-turns-requires (wide-turns-claims t) (wide-turns-at t) wide-turns.Post
+wide-turns-turns-requires t c κs =
     let a = c .before .before .before .before .before .args in
     let p = c .before .before .before .before .before .pre .1 in
     let small : sizeOf (a .k) ≤ 1024 = wide-size (a .image .now) (a .k) (a .places .now) (p .walkable) in
     (omega (arith, c .before .before .before .before .before .pre .0), (p, nothing (sizeOf (a .k)) 1024 small, nothing (sizeOf (a .k)) 1024 small .size))
 
-wide-repeat-same-length : (t : ℕ) → wide-repeat-lts.Need-same-length (wide-repeat-claims t) (wide-repeat-at t) wide-repeat.Post
-wide-repeat-same-length t c = c .before .before .before .before .turns .ensures .size
+wide-turns-same-length : (t : ℕ) → wide-turns-lts.Need-same-length (wide-turns-claims t) (wide-turns-at t) wide-turns.Post
+wide-turns-same-length t c = c .before .before .before .before .turns .ensures .size
 
-wide-repeat-returns : (t : ℕ) → wide-repeat-lts.Need-returns (wide-repeat-claims t) (wide-repeat-at t) wide-repeat.Post
-wide-repeat-returns t c = c .before .before .before .before .turns .ensures
+wide-turns-returns : (t : ℕ) → wide-turns-lts.Need-returns (wide-turns-claims t) (wide-turns-at t) wide-turns.Post
+wide-turns-returns t c = c .before .before .before .before .turns .ensures
 
-pub +arms+branch+iteration+repeat+sequence+turns+unroll+walk+wide-branch+wide-repeat-spec : {M : Type 1} → statement M
-+arms+branch+iteration+repeat+sequence+turns+unroll+walk+wide-branch+wide-repeat-spec =
-    close μ-arms μ-branch μ-iteration μ-repeat μ-sequence μ-turns μ-unroll μ-walk μ-wide-branch μ-wide-repeat
+pub +arms+branch+iteration+repeat+sequence+turns+unroll+walk+wide-branch+wide-turns-spec : {M : Type 1} → statement M
++arms+branch+iteration+repeat+sequence+turns+unroll+walk+wide-branch+wide-turns-spec =
+    close μ-arms μ-branch μ-iteration μ-repeat μ-sequence μ-turns μ-unroll μ-walk μ-wide-branch μ-wide-turns
     (λ t. arms-lts.spec (arms-claims t) (arms-at t) arms.Post arms-Inv-loop arms-μ-loop
     (arms-size-requires t)
     (arms-loop-holds t)
@@ -912,7 +912,7 @@ pub +arms+branch+iteration+repeat+sequence+turns+unroll+walk+wide-branch+wide-re
     (iteration-returns t))
     (λ t. repeat-lts.spec (repeat-claims t) (repeat-at t) repeat.Post
     (repeat-walk-requires t)
-    (repeat-wide-repeat-requires t)
+    (repeat-wide-turns-requires t)
     (repeat-same-length t)
     (repeat-returns t)
     (repeat-slice-aggregate-turns t)
@@ -998,9 +998,9 @@ pub +arms+branch+iteration+repeat+sequence+turns+unroll+walk+wide-branch+wide-re
     (wide-branch-arms-requires t)
     (wide-branch-same-length t)
     (wide-branch-returns t))
-    (λ t. wide-repeat-lts.spec (wide-repeat-claims t) (wide-repeat-at t) wide-repeat.Post
-    (wide-repeat-slice-aggregate-turns t)
-    (wide-repeat-slice-aggregate-turns-2 t)
-    (wide-repeat-turns-requires t)
-    (wide-repeat-same-length t)
-    (wide-repeat-returns t))
+    (λ t. wide-turns-lts.spec (wide-turns-claims t) (wide-turns-at t) wide-turns.Post
+    (wide-turns-slice-aggregate-turns t)
+    (wide-turns-slice-aggregate-turns-2 t)
+    (wide-turns-turns-requires t)
+    (wide-turns-same-length t)
+    (wide-turns-returns t))
