@@ -1460,6 +1460,11 @@ pub fn worked_tests(cases: &mut Cases) {
     // the exits lead on: plain 4 as test, plain 1 as body, none or once, then A2, from {0}: 4 after 4 or 9 after 9; from both 2 after 12.
     // Published: 9, and from {4, 9} 8.
     small(&[0], &[a2(), one(), plain(4, 4), looped(0, 1, 1, 2), sequence(&[3, 0])], (12, 17), &[(2, 12)]);
+    // plain 2 as test, from {2}: 4 after 2 or 7 after 5; from both 2 after 10. Published: 5, and from {4, 7} 8.
+    small(&[2], &[a2(), one(), plain(2, 2), looped(0, 1, 1, 2), sequence(&[3, 0])], (10, 13), &[(2, 10)]);
+    // a loop of no iterations with plain 1 as test, and A2, twice, from {3}: 4 after 1, 2 after 9, 3 after 10, 5 after 12
+    let twice = [a2(), one(), idle(), looped(0, 0, 0, 1), sequence(&[3, 0]), looped(2, 2, 4, 2)];
+    small(&[3], &twice, (12, 12), &[(5, 12)]);
     // plain 1 as test, from {3}, then A2: 4 after 1, 2 after 9. Published: 1, and from 4 8.
     small(&[3], &[a2(), one(), looped(0, 0, 0, 1), sequence(&[2, 0])], (9, 9), &[(2, 9)]);
     // the whole exit set goes on: plain 0 to 1, then A2 as test around plain 1, from {3}: 3 after 0 and 4 after 1; 5 after 2 and 2 after 9; 6
@@ -1638,7 +1643,7 @@ pub fn visits_of_tests(cases: &mut Cases) {
         add(&with(0, 1, test), either(test < 100_000, 9));
         add(&with(0, 1 << 70, test), either(test < 100_000, 9));
     }
-    // "With greatest 0" an enormous body counts nothing, an enormous test does; nor does the body in a loop inside
+    // with a greatest count of 0 an enormous body counts nothing, an enormous test does; nor does that body in loops around it
     for enormous in
         [100_000, 100_001, 1 << 16, 1 << 32, (1 << 32) + 1, 1 << 40, 1 << 63, (1 << 64) - 2, (1 << 64) - 1, 1 << 64, 1 << 80]
     {
