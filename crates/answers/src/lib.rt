@@ -5,6 +5,8 @@
 // EqualAnswers (two images that say one task).
 // proofs/: both demands follow from the equality alone (`demand3`, `demand2` of Promises); `equal_answers` of EitherWay (tag 9 for tag 1) and
 // `closed_answers` of Closing (tag 8 naming the last node, or none).
+#![tactic(auto)]
+
 use refusals::Refusal;
 
 // Both figures and the count of exit offsets.

@@ -13,6 +13,8 @@
 // (`since_reset` in proofs/Timing.antt). From any state: other cores never alter a core's registers or line (`undisturbed` in proofs/Apart.antt).
 //
 // src/: calls (each kind of call, and any). The state, what it may hold and a tick are crate device.
+#![tactic(auto)]
+
 use device::Arbiter;
 use refusals::Refusal;
 

@@ -2,6 +2,8 @@
 //
 // Promises: `byte` and `word` are the number at a place, of one byte and of two.
 // Definitions: `byte_at` and `word_at` in specs/Bytes.antt.
+#![tactic(auto)]
+
 ghost use Rattle.std.specs.Prelude.{◌≡◌, ◌<◌};
 ghost use Rattle.bytes.specs.Bytes.{byte_at, word_at};
 

@@ -10,6 +10,8 @@
 // Of calls one after the other: they lead where those among them lead that their callers have the right to, so the laws of `arbiter` hold of them
 // (`permitted_lead`, `reached_by` in proofs/Rights.antt); and from one reset on, what a core is answered goes by its own calls and the workshop's
 // ticks and resets alone (`same_answers` in proofs/Unseen.antt).
+#![tactic(auto)]
+
 ghost use Rattle.std.specs.Prelude.{◌≡◌};
 ghost use Rattle.arbiter.specs.declared.Call.TheVariants.{Read, Line, Write, Tick, Reset};
 ghost use Rattle.callers.specs.Callers.{is_own, may_read, has_right, outcome_by};

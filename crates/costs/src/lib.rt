@@ -5,6 +5,8 @@
 //
 // The offset that costs most is found once round the period, from stretch to stretch of owned offsets. It begins at a longest stretch:
 // every access may start there, so that none waits past it.
+#![tactic(auto)]
+
 ghost use Rattle.std.specs.Prelude.{◌≡◌, true, ◌+◌, ◌≤◌, ◌<◌};
 ghost use Rattle.runs.specs.Figures.{access_cost};
 ghost use Rattle.bus.specs.Owning.{owns, bus_meant, Fit};

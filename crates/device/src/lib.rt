@@ -3,6 +3,7 @@
 // `states::state_ok` equals `formed`, `ticks::ticked_state` equals `ticked`, both for every state that they take (specs/Device.antt). Wrong answers that this
 // rules out: an access that starts where its slot does not hold it whole, a first cycle that is not counted, an unused core's registers that are not
 // looked at. specs/WellFormed.antt says in plain terms what a state may hold. The calls are crate arbiter.
+#![tactic(auto)]
 
 pub mod states;
 pub mod ticks;

@@ -7,6 +7,8 @@
 //             it was; the old durations restore it
 // Wrong answers that these rule out: a fifth byte, the neighbour's bytes, 5 for a node that is not plain, a refused edit that writes.
 // `find` and `set_durations` are what the preview has in common with the edit (specs/Steps.antt).
+#![tactic(auto)]
+
 ghost use Rattle.std.specs.Prelude.{◌≡◌, ◌+◌, length};
 ghost use Rattle.edits.specs.Edits.{with_durations};
 ghost use Rattle.edits.specs.Promise.{Editing, EditDone};

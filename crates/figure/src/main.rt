@@ -2,6 +2,8 @@
 //
 // A read that fails is not the end of the input (crate input): after a failure nothing goes to standard output, and a line to standard error; a listing
 // that could not be written whole is told there too. What is written is `listing` of crate listing. Only the calls `read` and `write` themselves are trusted.
+#![tactic(auto)]
+
 use input::{Input, read_input};
 use libc::{STDERR_FILENO, STDOUT_FILENO};
 use text::Written;

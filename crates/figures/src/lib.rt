@@ -6,6 +6,8 @@
 //   demand3   an accepted image with a place for each offset is given figures, and one statement about all its whole runs holds of them (`WholeRuns`);
 //   demand2   the published figure is that of Algorithms 1 to 3, and each access takes the wait of Equation 7 and its own cycles (`ByAlgorithms`).
 // These definitions are crate answers'; what a run, a wait and both methods are is in crates/runs/specs. specs/Steps.antt is between functions of this crate.
+#![tactic(auto)]
+
 ghost use Rattle.std.specs.Prelude.{◌≡◌, ◌++◌, ◌≤◌, take, drop, length};
 ghost use Rattle.runs.specs.Figures.{published};
 ghost use Rattle.image.specs.Tasks.{task_of};

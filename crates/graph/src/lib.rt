@@ -8,6 +8,8 @@
 //              figures of images that list every offset as a start (specs/Images.antt)
 // Wrong answers that it rules out: the previous task on the core forgotten, the last finish in place of the largest, a task that waits for
 // itself, a 65th task, numbers past the table.
+#![tactic(auto)]
+
 ghost use Rattle.std.specs.Prelude.{◌≡◌, length, get_or, ℕ, ◌+◌, ◌≤◌, ◌<◌, max};
 ghost use Rattle.runs.specs.Figures.{largest};
 ghost use Rattle.graph.specs.Table.{graph_of, permitted, all_below, finishes_of};

@@ -10,6 +10,8 @@
 // functions of this crate. The rows' rules are in crate rows, what a node field means
 // to crate `runs` in crate nodes, field 1's rules in crate schedule.
 // src/: fields (one field, and the scan), and the verdict here.
+#![tactic(auto)]
+
 ghost use Rattle.std.specs.Prelude.{◌≡◌};
 ghost use Rattle.image.specs.Judged.{whole_of};
 ghost use Rattle.image.specs.Conditions.{Ending};

@@ -2,6 +2,8 @@
 //
 // A read that fails is not the end of the input: `after_read` promises that the input after each answer of `read` equals `after_read`
 // (specs/Reading.antt), `read_input` that no more is read than the buffer has. Only the call `read` itself is trusted here.
+#![tactic(auto)]
+
 ghost use Rattle.std.specs.Prelude.{◌≡◌, ◌≤◌, ◌-◌};
 ghost use Rattle.libc.specs.Io.{Moved};
 ghost use Rattle.input.specs.Reading.{after_read, Held};

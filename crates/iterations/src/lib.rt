@@ -4,6 +4,8 @@
 // Promises: the exits before the first iteration (`BegunBy`) and after one more (`TurnedBy`) are those of the definition; what is seen of a loop
 // is true of it (`KeptBy`, `WatchedBy`), and skipping whole cycles is walking them (`SkippedBy`).
 // Definitions: specs/Iterations.antt, over crates/runs/specs/Parts.antt, crates/cycles/specs and crates/times/specs/Arrays.antt.
+#![tactic(auto)]
+
 ghost use Rattle.std.specs.Prelude.{◌≡◌, length, ◌+◌, ◌≤◌};
 ghost use Rattle.times.specs.Arrays.{Fits};
 ghost use Rattle.cycles.specs.Cycles.{Small};

@@ -1,6 +1,8 @@
 // judging: judges the images on standard input, one after another, and writes one line for each: its number from 1 on, and `accepted`, or
 // `refused` with the number and the place of document 01 ("When no figure is given"). Each image follows its length, two bytes, high byte first.
 // tests/make-judging makes the input and the expected lines, and names each case.
+#![tactic(auto)]
+
 use bytes::word;
 use image::{Verdict, judge};
 use libc::{STDIN_FILENO, STDOUT_FILENO};

@@ -8,6 +8,8 @@
 // that is written to.
 // Calls one after the other lead where `after_all_by` of `callers` leads, behind a reset to reached states, and tell a core the same whatever other
 // cores call, so the laws of both crates hold of the bytes (`bytes_lead`, `bytes_reached`, `bytes_same_answers` in proofs/Bytewise.antt).
+#![tactic(auto)]
+
 ghost use Rattle.std.specs.Prelude.{◌≡◌, ◌∷◌, ◌≤◌, length, drop};
 ghost use Rattle.refusals.specs.Refusals.{number_of};
 ghost use Rattle.arbiter.specs.Calls.{told};

@@ -15,6 +15,8 @@
 // 3, `WholeEdit` what an edit leaves, and `WholeFinishes` what finishes say of all starts, ends and whole runs. Calls to the arbiter one after
 // the other lead where `after_all_by` of `callers` leads, so its laws and those of `arbiter` hold of the bytes (`bytes_lead`, `bytes_same_answers`
 // in crates/lent/proofs/Bytewise.antt).
+#![tactic(auto)]
+
 ghost use Rattle.std.specs.Prelude.{◌≡◌, ◌≤◌, length};
 ghost use Rattle.answers.specs.Answers.{result_of};
 ghost use Rattle.linked.specs.Linked.{judge_call, figures_into, figures_call, WholeFigures, edit_call, WholeEdit, preview_call, WholePreview, finishes_call, WholeFinishes};

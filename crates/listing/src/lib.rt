@@ -3,6 +3,8 @@
 // `listing` has no `requires` and promises that the answer and the buffer at exit equal a definition over the image's bytes
 // and the buffer at entry: the listing of specs/Listings.antt at the buffer's start and the rest unchanged, or, where the buffer has
 // fewer than 8,192 bytes, `Short` and no change. The program above it only reads and writes.
+#![tactic(auto)]
+
 ghost use Rattle.std.specs.Prelude.{◌≡◌};
 ghost use Rattle.text.specs.Buffer.{into_buffer};
 ghost use Rattle.listing.specs.Listings.{listing_of};

@@ -2,6 +2,8 @@
 //
 // `node_at` decodes the field at a place: its answer equals `node_of` of specs/Nodes.antt, which also says what that means to crate `runs` (`meant`). weigh
 // has depth and visits of nodes, up to the limits and one more; fetched the number of lines. specs/Fine.antt: what holds of the node of a good field.
+#![tactic(auto)]
+
 ghost use Rattle.std.specs.Prelude.{◌≡◌, ◌≤◌, length};
 ghost use Rattle.nodes.specs.Nodes.{kind_of, node_of};
 

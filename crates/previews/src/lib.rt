@@ -7,6 +7,8 @@
 //             and the edited image
 // Wrong answers that these rule out: the figures of the image as it is, 10 before 5.
 // The edit, and when it is possible, is in crate edits; the answer for an image and a table, and both demands, in crate answers.
+#![tactic(auto)]
+
 ghost use Rattle.std.specs.Prelude.{◌≡◌, ◌++◌, ◌+◌, ◌≤◌, length, drop};
 ghost use Rattle.image.specs.Conditions.{longest_image};
 ghost use Rattle.answers.specs.Promise.{Equal, Demand3, Demand2};

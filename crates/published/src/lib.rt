@@ -7,6 +7,8 @@
 // logarithm of the count.
 // A loop whose exit sets have become periodic (after `cycle` iterations the set is the same again, and they cost `gain`) is not walked to its
 // end: the unroller stops there, whole cycles are skipped, and the rest is walked.
+#![tactic(auto)]
+
 ghost use Rattle.std.specs.Prelude.{◌≡◌, ◌+◌, ◌≤◌, max};
 ghost use Rattle.runs.specs.Nodes.{Tree, visits};
 ghost use Rattle.bus.specs.declared.Bus.{Bus};

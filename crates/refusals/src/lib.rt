@@ -1,6 +1,8 @@
 // refusals: why there is no answer, in one list: the words of the papers' tables but 21.
 //
 // `number` has no `requires` and promises that its answer equals `number_of` of specs/Refusals.antt, the number that the tables give; `word_of` has the word.
+#![tactic(auto)]
+
 ghost use Rattle.std.specs.Prelude.{◌≡◌};
 ghost use Rattle.refusals.specs.Refusals.{number_of};
 

@@ -4,6 +4,8 @@
 // Each function promises that its answer equals a test of specs/Tests.antt; that the test is true if and only if the row's rule holds, in plain terms
 // (specs/Rules.antt), is proved in proofs/Rules.antt: `tag_rule`, `room_rule`, `length_rule`, `value_rule`, `child_rule`, `entry_rule`. `plain_ok` asks nothing of its caller.
 // specs/Fields.antt says where a field stands and when it is good; the scan over all fields is in crate image, field 1's own rules in crate schedule.
+#![tactic(auto)]
+
 ghost use Rattle.std.specs.Prelude.{◌≡◌, ◌+◌, ◌*◌, ◌<◌};
 ghost use Rattle.schedule.specs.Said.{Ranged};
 ghost use Rattle.rows.specs.Tests.{parity_within, tag_ok, room_ok, node_length_ok, length_ok, starts_ok, plain_ok, access_ok, block_ok, once_ok, loop_ok, node_value_ok, value_ok, below, children_ok, entry_ok};

@@ -4,6 +4,8 @@
 // Promises: `bus_ok` and `schedule_ok` are the rules of both rows; of a field that keeps them, `period_at` is the period and `most_at` the longest
 // access of the bus that it says, and `bus_at` is that bus as the offsets that the core owns.
 // Definitions: specs/Said.antt, over crates/runs/specs/Slots.antt and Schedules.antt.
+#![tactic(auto)]
+
 ghost use Rattle.std.specs.Prelude.{◌≡◌, cond, ◌+◌, ◌<◌, ◌≤◌};
 ghost use Rattle.runs.specs.Bus.{SameBus};
 ghost use Rattle.runs.specs.Schedules.{total};

@@ -3,6 +3,8 @@
 //
 // Promise: `now_all` joins to a table the entries that start at once, in any stretch (`StartedAll`).
 // Definitions: specs/Starting.antt, over crates/runs/specs/Stretches.antt.
+#![tactic(auto)]
+
 ghost use Rattle.std.specs.Prelude.{◌≡◌, length, get_or, ◌-◌, ◌<◌, ◌≤◌};
 ghost use Rattle.bus.specs.Owning.{owns, Fit};
 ghost use Rattle.times.specs.Arrays.{Fits};

@@ -5,6 +5,8 @@
 //
 // What passes is a window over the entries (crate windows), what starts at once too, stretch by stretch (starting), and what waits starts where a
 // stretch begins (waiting). Equal slots are a bus with one stretch.
+#![tactic(auto)]
+
 ghost use Rattle.runs.specs.Nodes.{may, always, Tree};
 ghost use Rattle.steps.specs.Steps.{Stepped, PlainReady, BusReady};
 

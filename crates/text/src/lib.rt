@@ -6,6 +6,8 @@
 // Each answers how many bytes that is and leaves the rest of the buffer. A buffer of fewer than 8,192 bytes is left whole, and so
 // is one beside a table that does not fit the period; the answer says which. (No listing has more than 6,485 bytes.)
 // Definitions: the bytes in specs/Text.antt; what is answered and left in specs/Buffer.antt.
+#![tactic(auto)]
+
 ghost use Rattle.std.specs.Prelude.{◌≡◌, [], ◌∷◌, ◌+◌, ◌*◌, ◌≤◌, ◌<◌, length};
 ghost use Rattle.text.specs.Text.{decimal, last_item, line, refused_line, exit_line, exit_lines, figure_lines};
 ghost use Rattle.text.specs.Buffer.{Wrote, refused_listed, figures_listed};

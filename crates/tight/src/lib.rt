@@ -9,6 +9,8 @@
 // a loop keeps have 256 places, and 1,024 only where the image has lines.
 // A loop whose times have become periodic (after `cycle` iterations every time is `gain` cycles later) is not walked to its end: the
 // unroller stops there, whole cycles are skipped by one addition, and the rest is walked.
+#![tactic(auto)]
+
 ghost use Rattle.std.specs.Prelude.{◌≡◌, length, ◌≤◌};
 ghost use Rattle.nodes.specs.Nodes.{tree_at, child_trees, turn_trees, kind_meant};
 ghost use Rattle.runs.specs.Nodes.{Tree, visits};

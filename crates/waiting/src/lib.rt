@@ -7,6 +7,8 @@
 // Promise: `arrive_all` joins to a table the entries that wait, or stand where a stretch begins, for each duration that the stretch has room for
 // (`LeftAll`).
 // Definitions: specs/Waiting.antt, over crates/runs/specs/Stretches.antt.
+#![tactic(auto)]
+
 ghost use Rattle.std.specs.Prelude.{◌≡◌, length, ◌+◌, ◌<◌, ◌≤◌, max};
 ghost use Rattle.runs.specs.Figures.{later as laterBy};
 ghost use Rattle.bus.specs.Owning.{owns, Fit};

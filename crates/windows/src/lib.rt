@@ -4,6 +4,8 @@
 // Promises: `plain` and `plain_wide` give the table of the definition (`Passed`), for durations up to 127 and up to 255 apart; `two_pass` the largest
 // of every n places in a row (`Windowed`), `key` and `unkey` the keys that it is used on.
 // Definitions: specs/Windows.antt.
+#![tactic(auto)]
+
 ghost use Rattle.std.specs.Prelude.{◌≡◌, length, ◌+◌, ◌<◌, ◌≤◌};
 ghost use Rattle.times.specs.Arrays.{no_time, Fits};
 ghost use Rattle.windows.specs.Windows.{Same, Windowed, Suffixes, Prefixes, key_of, Keyed, time_at, Unkeyed, Turns, Room, Passed};
