@@ -10,7 +10,7 @@
 use refusals::Refusal;
 
 // Both figures and the count of exit offsets.
-#[derive(Drop)]
+#[derive(Clone, Copy)]
 pub struct Totals {
     pub tight: u64,
     pub published: u64,
@@ -18,7 +18,7 @@ pub struct Totals {
 }
 
 // The figures, or why there are none and at which place.
-#[derive(Drop)]
+#[derive(Clone, Copy)]
 pub enum Answer {
     Given(Totals),
     Refused(Refusal, usize),

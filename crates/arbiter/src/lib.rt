@@ -21,7 +21,7 @@ use refusals::Refusal;
 pub mod calls;
 
 // A call to the arbiter.
-#[derive(Drop)]
+#[derive(Clone, Copy)]
 pub enum Call {
     // a core's register; a core's interrupt line
     Read(usize, usize),
@@ -34,7 +34,7 @@ pub enum Call {
 }
 
 // The answer to a call; a refusal has its place beside it.
-#[derive(Drop)]
+#[derive(Clone, Copy)]
 pub enum Reply {
     Accepted,
     Value(u8),
@@ -42,7 +42,7 @@ pub enum Reply {
 }
 
 // The state after a call, and the answer to it.
-#[derive(Drop)]
+#[derive(Clone, Copy)]
 pub struct Outcome {
     pub state: Arbiter,
     pub reply: Reply,

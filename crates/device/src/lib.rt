@@ -9,7 +9,7 @@ pub mod states;
 pub mod ticks;
 
 // One core's registers: 0 length, 1 flags (1 waiting, 2 running, 4 done), 2 interrupt mask.
-#[derive(Drop)]
+#[derive(Clone, Copy)]
 pub struct Registers {
     pub length: u8,
     pub flags: u8,
@@ -17,7 +17,7 @@ pub struct Registers {
 }
 
 // The state: the bus's cores and slot length, the offset, and the registers of 16 cores, unused ones too.
-#[derive(Drop)]
+#[derive(Clone, Copy)]
 pub struct Arbiter {
     pub cores: u8,
     pub slot: u8,

@@ -18,14 +18,14 @@ use image::Verdict;
 use refusals::Refusal;
 
 // The edit is done, or why not and at which place.
-#[derive(Drop)]
+#[derive(Clone, Copy)]
 pub enum Edited {
     Done,
     Refused(Refusal, usize),
 }
 
 // The place of the block's field, or why there is no edit and at which place.
-#[derive(Drop)]
+#[derive(Clone, Copy)]
 pub enum Found {
     At(usize),
     Refused(Refusal, usize),

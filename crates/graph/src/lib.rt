@@ -18,14 +18,14 @@ ghost use Rattle.graph.specs.Promise.{Equal, Because, Waiting};
 ghost use Rattle.graph.specs.Steps.{Rows, Sized, First};
 
 // Accepted, or refused under 21 at a place.
-#[derive(Drop)]
+#[derive(Clone, Copy)]
 pub enum Verdict {
     Accepted,
     Refused(usize),
 }
 
 // The verdict and 64 finishes: 0 past the table, and all 0 if it is refused.
-#[derive(Drop)]
+#[derive(Clone, Copy)]
 pub struct Answer {
     pub verdict: Verdict,
     pub finishes: [u64; 64],

@@ -30,7 +30,7 @@ mod fields;
 
 // The outline of an accepted image: the period of the bus, the number of start offsets in field 2, the number of lines and of sets of
 // lines, the number of nodes, and the entry.
-#[derive(Drop)]
+#[derive(Clone, Copy)]
 pub struct Outline {
     pub period: usize,
     pub starts: usize,
@@ -41,20 +41,20 @@ pub struct Outline {
 }
 
 // What both walks go by: the bus, and the accepted image's numbers.
-#[derive(Drop)]
+#[derive(Clone, Copy)]
 pub struct Walk {
     pub bus: Bus,
     pub outline: Outline,
 }
 
-#[derive(Drop)]
+#[derive(Clone, Copy)]
 pub enum Verdict {
     Accepted(Outline),
     Refused(Refusal, usize),
 }
 
 // The verdict, and of an accepted image the place of each node's field.
-#[derive(Drop)]
+#[derive(Clone, Copy)]
 pub struct Judged {
     pub verdict: Verdict,
     pub places: [usize; 256],

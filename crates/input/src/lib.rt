@@ -11,7 +11,7 @@ ghost use Rattle.input.specs.Reading.{after_read, Held};
 use libc::STDIN_FILENO;
 
 // How far the input is read: so many bytes of it, and more may come; all of it, or as much as the buffer holds; or a read failed.
-#[derive(Drop)]
+#[derive(Clone, Copy)]
 pub enum Input {
     Open(usize),
     Whole(usize),

@@ -13,19 +13,19 @@ pub mod fetched;
 pub mod weigh;
 
 // A bus block's kind: 1 may access, 2 always accesses.
-#[derive(Drop)]
+#[derive(Clone, Copy)]
 pub enum Kind {
     May,
     Always,
 }
 
-#[derive(Drop)]
+#[derive(Clone, Copy)]
 pub struct Plain {
     pub lowest: usize,
     pub highest: usize,
 }
 
-#[derive(Drop)]
+#[derive(Clone, Copy)]
 pub struct BusBlock {
     pub kind: Kind,
     pub lowest: usize,
@@ -33,7 +33,7 @@ pub struct BusBlock {
 }
 
 // Code fetched once: an access the first time that its line is met, and the hit time later.
-#[derive(Drop)]
+#[derive(Clone, Copy)]
 pub struct Once {
     pub line: usize,
     pub lowest: usize,
@@ -42,14 +42,14 @@ pub struct Once {
 }
 
 // Where child numbers stand in the image, two bytes each, and how many they are.
-#[derive(Drop)]
+#[derive(Clone, Copy)]
 pub struct Children {
     pub place: usize,
     pub count: usize,
 }
 
 // A loop tested at the head: the test comes before each iteration of the body, and once after the last.
-#[derive(Drop)]
+#[derive(Clone, Copy)]
 pub struct Loop {
     pub least: usize,
     pub greatest: usize,
@@ -57,7 +57,7 @@ pub struct Loop {
     pub test: usize,
 }
 
-#[derive(Drop)]
+#[derive(Clone, Copy)]
 pub enum Node {
     Plain(Plain),
     Bus(BusBlock),

@@ -9,7 +9,7 @@ ghost use Rattle.nodes.specs.Weights.{Weighed, Together, OverTurns, Weighs};
 use crate::{Loop, Node, node_at};
 use bytes::word;
 
-#[derive(Drop)]
+#[derive(Clone, Copy)]
 pub struct Weight {
     pub depth: usize,
     pub visits: usize,

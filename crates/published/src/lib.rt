@@ -24,14 +24,14 @@ use nodes::{BusBlock, Children, Kind, Loop, Node, Once, Plain};
 use offsets::Set;
 
 // A result of the algorithms: the cost in cycles, and the exit offsets.
-#[derive(Drop)]
+#[derive(Clone, Copy)]
 pub struct Outcome {
     pub cost: u64,
     pub exits: Set,
 }
 
 // The offsets after the iterations done, those after a permitted count of them, joined, and the cost so far.
-#[derive(Drop)]
+#[derive(Clone, Copy)]
 pub struct Pass {
     pub cur: Set,
     pub out: Set,
@@ -39,14 +39,14 @@ pub struct Pass {
 }
 
 // What is kept of an earlier iteration: the offsets after it, and the cost until then.
-#[derive(Drop)]
+#[derive(Clone, Copy)]
 pub struct Kept {
     pub set: Set,
     pub spent: u64,
 }
 
 // A loop on the way: where it stands, what is kept, and what is seen of its iterations.
-#[derive(Drop)]
+#[derive(Clone, Copy)]
 pub struct Turns {
     pub pass: Pass,
     pub kept: Kept,

@@ -8,7 +8,7 @@ ghost use Rattle.refusals.specs.Refusals.{number_of};
 
 // Why there is no answer. Judging answers the first nine, `Entry` (11) and `Lines` (18); `Table` is for what lends a table,
 // `Register`, `Busy` and `Forbidden` are for calls to the arbiter (15 to 17), `Block` is for one that edits a block (19).
-#[derive(Drop)]
+#[derive(Clone, Copy)]
 pub enum Refusal {
     Cut,
     Tag,

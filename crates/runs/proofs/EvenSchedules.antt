@@ -1,5 +1,5 @@
 -- An equal schedule written either way: the same period, the same longest access, accesses that may start at the same offsets, the same waits.
-use mathlib.Core.Path.{◌≡◌, refl, sym, ◌∙◌, ap}
+use mathlib.Core.Path.{◌≡◌, refl, sym, ◌∙◌, ap, subst}
 use mathlib.Core.Bool.{Bool, true, false, false≢true}
 use borrow.Author.Tests.{lt-ltb, le-ltb, eq-eqb, ne_eqb}
 use native.Mathlib.Nat.{mod-eq_of_lt, mod-lt, add-mod_right, add-zero, zero-add, mul-le-mul_right, not-suc-le-zero}
@@ -32,7 +32,8 @@ owns_in j k zero len o h l m = absurd (not-suc-le-zero h)
 owns_in zero k (suc n) len o h l m = rw (lt-ltb o len (omega arith)) (eq-eqb k (k + 0) (omega arith))
 owns_in (suc j) k (suc n) len o h l m =
     let e : k + suc j ≡ suc k + j = omega arith in
-    rw (le-ltb o len (omega arith), e) (owns_in j (suc k) n len (o - len) (omega arith) (omega arith) (omega arith))
+    rw (le-ltb o len (omega arith))
+    (subst (λ (x : ℕ). owns x (turns_from (suc k) n len) (o - len) ≡ true) (sym e) (owns_in j (suc k) n len (o - len) (omega arith) (omega arith) (omega arith)))
 
 owns_before : (j k n len o : ℕ) → o < j * len → owns (k + j) (turns_from k n len) o ≡ false
 unfolding owns turns_from
@@ -41,7 +42,8 @@ owns_before zero k (suc n) len o h = let z : 1 ≤ 0 = omega arith in absurd (no
 owns_before (suc j) k (suc n) len o h =
     let e : k + suc j ≡ suc k + j = omega arith in
     split len o
-    (λ l. rw (le-ltb o len l, e) (owns_before j (suc k) n len (o - len) (omega arith)))
+    (λ l. rw (le-ltb o len l)
+    (subst (λ (x : ℕ). owns x (turns_from (suc k) n len) (o - len) ≡ false) (sym e) (owns_before j (suc k) n len (o - len) (omega arith))))
     (λ l. rw (lt-ltb o len l) (ne_eqb k (k + suc j) (λ z. omega arith)))
 
 owns_after : (j k n len o : ℕ) → j * len + len ≤ o → owns (k + j) (turns_from k n len) o ≡ false
@@ -50,7 +52,8 @@ owns_after j k zero len o h = refl
 owns_after zero k (suc n) len o h = rw (le-ltb o len (omega arith)) (owns_none (k + 0) (suc k) n len (o - len) (omega arith))
 owns_after (suc j) k (suc n) len o h =
     let e : k + suc j ≡ suc k + j = omega arith in
-    rw (le-ltb o len (omega arith), e) (owns_after j (suc k) n len (o - len) (omega arith))
+    rw (le-ltb o len (omega arith))
+    (subst (λ (x : ℕ). owns x (turns_from (suc k) n len) (o - len) ≡ false) (sym e) (owns_after j (suc k) n len (o - len) (omega arith)))
 
 pub bool_same : (s t : Bool) → (s ≡ true → t ≡ true) → (t ≡ true → s ≡ true) → s ≡ t
 bool_same true t f g = sym (f refl)

@@ -19,7 +19,7 @@ use bytes::{byte, word};
 use offsets::Set;
 
 // The offsets that the analysed core owns, those that it does not, and the period.
-#[derive(Drop)]
+#[derive(Clone, Copy)]
 pub struct Divided {
     pub own: Set,
     pub rest: Set,

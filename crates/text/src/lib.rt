@@ -18,7 +18,7 @@ const NO_TIME: u64 = 18446744073709551615;
 // A buffer that holds every listing.
 const ENOUGH: usize = 8192;
 
-#[derive(Drop)]
+#[derive(Clone, Copy)]
 pub enum Written {
     // The listing is that many bytes from the buffer's start.
     Bytes(usize),
