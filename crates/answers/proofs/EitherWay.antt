@@ -10,8 +10,8 @@ use Rattle.runs.specs.Nodes.{Node}
 use Rattle.runs.proofs.EitherWay.{on_bus, SameAnswers, same_answers}
 use Rattle.bus.specs.Waits.{slots_of, Ranges}
 use Rattle.bus.specs.declared.Slots.{Slots}
-use Rattle.bytes.specs.Bytes.{byte_at, word_at, bytes}
-use Rattle.bytes.proofs.Agreeing.{front}
+use Rattle.image_bytes.specs.Bytes.{byte_at, word_at, bytes}
+use Rattle.image_bytes.proofs.Agreeing.{front}
 use Rattle.schedule.specs.Said.{slots_at, said}
 use Rattle.schedule.specs.Written.{slots_field, turns_field, other_way}
 use Rattle.schedule.proofs.Sayings.{slots_ranged}

@@ -4,7 +4,7 @@ use Rattle.runs.specs.Clock.{State}
 use Rattle.runs.specs.Runs.{places_of}
 use Rattle.runs.specs.Slots.{equation7}
 use Rattle.runs.specs.Figures.{published}
-use Rattle.bytes.specs.Bytes.{byte_at}
+use Rattle.image_bytes.specs.Bytes.{byte_at}
 use Rattle.schedule.specs.Said.{slots_at, schedule_at}
 use Rattle.image.specs.Tasks.{task_of}
 use Rattle.image.specs.Judged.{judged}

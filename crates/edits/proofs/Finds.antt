@@ -7,7 +7,7 @@ use lib.ListN.{length}
 use native.Mathlib.Omega.{arith}
 use Prim.Native.Nat.{ℕ, ◌≤◌, ◌<◌}
 use Rattle.runs.proofs.Cases.{either}
-use Rattle.bytes.specs.Bytes.{byte_at}
+use Rattle.image_bytes.specs.Bytes.{byte_at}
 use Rattle.rows.specs.Tests.{plain_ok}
 use Rattle.image.specs.Judged.{judged}
 use Rattle.refusals.specs.declared.Refusal.{Refusal}

@@ -6,7 +6,7 @@ use mathlib.Core.List.{List}
 use native.Mathlib.Omega.{arith}
 use Prim.Native.Nat.{ℕ, ◌+◌, ◌<◌}
 use Rattle.runs.specs.Nodes.{Node}
-use Rattle.bytes.specs.Bytes.{byte_at, word_at}
+use Rattle.image_bytes.specs.Bytes.{byte_at, word_at}
 use Rattle.rows.specs.Tests.{plain_ok, node_value_ok, value_ok}
 use Rattle.nodes.specs.Nodes.{node_at}
 use Rattle.rows.proofs.Rules.{durations_kept, tested}

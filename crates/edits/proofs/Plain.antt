@@ -7,7 +7,7 @@ use lib.Dec.{eqb, ltb}
 use native.Mathlib.Omega.{arith}
 use Prim.Native.Nat.{ℕ, ◌+◌}
 use Rattle.runs.specs.Nodes.{Node as RunNode}
-use Rattle.bytes.specs.Bytes.{byte_at, word_at}
+use Rattle.image_bytes.specs.Bytes.{byte_at, word_at}
 use Rattle.nodes.specs.Nodes.{node_from, meant, node_at}
 use Rattle.nodes.specs.declared.Node.TheVariants.{Plain, Bus, Once, Sequence, Branch, Loop}
 use Rattle.nodes.specs.declared.Plain.{Plain as PlainNumbers}

@@ -3,7 +3,7 @@ use mathlib.Core.Path.{◌≡◌, refl, sym, ◌∙◌, ap, subst}
 use mathlib.Core.List.{List}
 use native.Mathlib.Omega.{arith}
 use Prim.Native.Nat.{ℕ, ◌+◌, ◌<◌}
-use Rattle.bytes.specs.Bytes.{byte_at}
+use Rattle.image_bytes.specs.Bytes.{byte_at}
 use Rattle.refusals.specs.declared.Refusal.{Refusal}
 use Rattle.edits.specs.declared.Found.{Found}
 use Rattle.edits.specs.declared.Found.TheVariants.{At, Refused as NotFound}

@@ -8,8 +8,8 @@ use native.Mathlib.Omega.{arith}
 use Prim.Native.Nat.{ℕ, zero, suc, ◌+◌, ◌≤◌, ◌<◌}
 use Rattle.runs.specs.Nodes.{Node}
 use Rattle.runs.proofs.Cases.{split}
-use Rattle.bytes.specs.Bytes.{byte_at, word_at}
-use Rattle.bytes.proofs.Agreeing.{Agree, agree_part, agree_first, agree_word, agree_bytes}
+use Rattle.image_bytes.specs.Bytes.{byte_at, word_at}
+use Rattle.image_bytes.proofs.Agreeing.{Agree, agree_part, agree_first, agree_word, agree_bytes}
 use Rattle.schedule.specs.Said.{said}
 use Rattle.schedule.proofs.Writings.{agree_said}
 use Rattle.rows.specs.Tests.{node_length_ok, length_ok, node_value_ok, value_ok, children_ok, entry_ok}

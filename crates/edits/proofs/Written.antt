@@ -6,7 +6,7 @@ use lib.Seq.{get_or-set_same, get_or-set_other, set-append_left, take_at, ext_ge
 use native.Mathlib.Omega.{arith}
 use Prim.Native.Nat.{ℕ, ◌+◌, ◌/◌, ◌%◌, ◌≤◌, ◌<◌}
 use Rattle.runs.proofs.Cases.{split}
-use Rattle.bytes.specs.Bytes.{byte_at, word_at}
+use Rattle.image_bytes.specs.Bytes.{byte_at, word_at}
 use Rattle.edits.specs.Edits.{with_durations}
 
 -- one store, two and three

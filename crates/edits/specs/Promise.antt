@@ -1,7 +1,7 @@
 -- What `edit` promises, over the image s, the numbers, the answer and the image at exit. Definitions only.
 use Rattle.std.specs.Prelude.{◌≡◌, ◌⊎◌, List, length, ℕ, ◌+◌, ◌≤◌, ◌<◌}
 use Rattle.runs.specs.Nodes.{Node, depth, visits}
-use Rattle.bytes.specs.Bytes.{byte_at}
+use Rattle.image_bytes.specs.Bytes.{byte_at}
 use Rattle.nodes.specs.Nodes.{node_at, tree_at}
 use Rattle.image.specs.Tasks.{starts_of}
 use Rattle.image.specs.Conditions.{Condition, Accepting}

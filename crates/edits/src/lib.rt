@@ -45,7 +45,7 @@ pub fn find(image: &[u8], node: usize, lowest: usize, highest: usize) -> Found
                 return Found::Refused(Refusal::Block, image.len());
             }
             let at = places[node];
-            if bytes::byte(image, at) != 3 {
+            if image_bytes::byte(image, at) != 3 {
                 return Found::Refused(Refusal::Block, image.len());
             }
             if !rows::plain_ok(lowest, highest) {

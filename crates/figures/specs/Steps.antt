@@ -8,7 +8,7 @@ use Rattle.runs.specs.Exact.{ValidTask}
 use Rattle.bus.specs.Owning.{bus_meant}
 use Rattle.offsets.specs.declared.Set.{Set}
 use Rattle.offsets.specs.Sets.{value, has}
-use Rattle.bytes.specs.Bytes.{byte_at}
+use Rattle.image_bytes.specs.Bytes.{byte_at}
 use Rattle.rows.specs.Fields.{length_at, body_at}
 use Rattle.image.specs.Tasks.{starts_of, task_of}
 use Rattle.schedule.specs.Said.{said}

@@ -25,7 +25,7 @@ use refusals::Refusal;
 fn starts_at(image: &[u8]) -> usize
     ensures { (result ≡ body_at image.now 1) × (result ≤ 65541) }
 {
-    6 + bytes::word(image, 1)
+    6 + image_bytes::word(image, 1)
 }
 
 // The time 0 at each of the n listed starts, which are below the period.
@@ -36,7 +36,7 @@ fn start_times(image: &[u8], place: usize, period: usize, n: usize) -> [u64; 256
     let mut out = [18446744073709551615u64; 256];
     let mut i = 0;
     while i < n {
-        let o = bytes::byte(image, place + i);
+        let o = image_bytes::byte(image, place + i);
         out[o] = 0;
         i += 1;
     }
@@ -51,7 +51,7 @@ fn start_set(image: &[u8], place: usize, period: usize, n: usize) -> Set
     let mut out = offsets::empty();
     let mut i = 0;
     while i < n {
-        let o = bytes::byte(image, place + i);
+        let o = image_bytes::byte(image, place + i);
         out = offsets::join(out, offsets::single(o as u64));
         i += 1;
     }

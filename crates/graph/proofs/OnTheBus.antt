@@ -15,7 +15,7 @@ use Rattle.runs.proofs.ByNumber.{exec_does}
 use Rattle.runs.proofs.SomeRun.{some_execution}
 use Rattle.runs.proofs.Whole.{whole_valid}
 use Rattle.runs.proofs.OnTheClock.{does_on}
-use Rattle.bytes.specs.Bytes.{byte_at}
+use Rattle.image_bytes.specs.Bytes.{byte_at}
 use Rattle.image.specs.Tasks.{task_of, starts_of}
 use Rattle.rows.specs.Fields.{length_at, body_at}
 use Rattle.image.specs.Judged.{judged}

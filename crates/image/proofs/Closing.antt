@@ -9,8 +9,8 @@ use Prim.Native.Nat.{ℕ, suc, ◌+◌, ◌-◌, ◌≤◌, ◌<◌}
 use Rattle.runs.specs.Bus.{Bus}
 use Rattle.runs.specs.Nodes.{node_lines}
 use Rattle.runs.proofs.Trees.{tree_alike}
-use Rattle.bytes.specs.Bytes.{byte_at, word_at}
-use Rattle.bytes.proofs.Agreeing.{Agree, agree_bytes, ahead, behind}
+use Rattle.image_bytes.specs.Bytes.{byte_at, word_at}
+use Rattle.image_bytes.proofs.Agreeing.{Agree, agree_bytes, ahead, behind}
 use Rattle.schedule.specs.Said.{said}
 use Rattle.schedule.proofs.Writings.{agree_said}
 use Rattle.rows.specs.Rules.{TagRule, RoomRule, LengthRule, ValueRule}

@@ -10,7 +10,7 @@ use Rattle.runs.specs.Slots.{equal_slots}
 use Rattle.runs.specs.Schedules.{unequal_slots}
 use Rattle.bus.specs.Waits.{slots_of, Ranges}
 use Rattle.bus.specs.declared.Slots.{Slots}
-use Rattle.bytes.specs.Bytes.{word_at}
+use Rattle.image_bytes.specs.Bytes.{word_at}
 use Rattle.schedule.specs.Said.{said}
 use Rattle.schedule.specs.Written.{slots_field, turns_field}
 use Rattle.schedule.proofs.Sayings.{kept_ranges, said_slots, said_turns}

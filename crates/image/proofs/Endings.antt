@@ -7,7 +7,7 @@ use lib.ListN.{length}
 use lib.Dec.{eqb}
 use borrow.Author.Tests.{ltb-true, ltb-false, le-ltb, eqb-true, eqb-false, eq-eqb, ne_eqb}
 use Rattle.runs.proofs.Cases.{by_cond}
-use Rattle.bytes.specs.Bytes.{word_at}
+use Rattle.image_bytes.specs.Bytes.{word_at}
 use Rattle.rows.specs.Tests.{length_ok}
 use Rattle.rows.specs.Fields.{field_at, tag_at, length_at, body_at, closed_at, GoodField, Passed}
 use Rattle.rows.specs.Unclosed.{Unclosed}

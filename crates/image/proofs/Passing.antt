@@ -8,7 +8,7 @@ use native.Mathlib.Omega.{arith}
 use lib.ListN.{length}
 use lib.Dec.{eqb}
 use borrow.Author.Tests.{le-leb, lt-leb, le-ltb}
-use Rattle.bytes.specs.Bytes.{byte_at}
+use Rattle.image_bytes.specs.Bytes.{byte_at}
 use Rattle.image.specs.Judged.{field_of, end_of, scan_from, scan}
 use Rattle.rows.specs.Fields.{field_at, length_at, closed_at, GoodField, Passed}
 use Rattle.image.specs.Conditions.{Complete}

@@ -6,7 +6,7 @@ use native.Mathlib.Omega.{arith}
 use Prim.Native.Nat.{ℕ, zero, suc, ◌+◌, ◌-◌, ◌≤◌}
 use lib.ListN.{length, length-append}
 use Rattle.runs.specs.Nodes.{Node, tree, lines_to}
-use Rattle.bytes.proofs.Agreeing.{Agree, agree_here, word_here, agree_word, agree_bytes, behind}
+use Rattle.image_bytes.proofs.Agreeing.{Agree, agree_here, word_here, agree_word, agree_bytes, behind}
 use Rattle.schedule.specs.Said.{said}
 use lib.Dec.{eqb}
 use borrow.Author.Tests.{ne_eqb}

@@ -12,7 +12,7 @@ use lib.Seq.{get_or-set_same, get_or-set_other}
 use lib.Dec.{eqb, ltb}
 use borrow.Author.Tests.{eqb-true, eqb-false}
 use Rattle.runs.proofs.Cases.{split, either}
-use Rattle.bytes.specs.Bytes.{byte_at, word_at}
+use Rattle.image_bytes.specs.Bytes.{byte_at, word_at}
 use Rattle.image.specs.Judged.{field_of, end_of}
 use Rattle.rows.specs.Fields.{field_at, tag_at, body_at, closed_at, GoodField, Passed}
 use Rattle.image.specs.Inner.{PlacedAll, Scanned}

@@ -10,7 +10,7 @@ use Rattle.runs.specs.Runs.{is_start}
 use Rattle.runs.specs.Figures.{held, exit_times, exit_set}
 use Rattle.runs.specs.Exact.{InRange, ValidTask}
 use Rattle.runs.proofs.Unlined.{exit_exact}
-use Rattle.bytes.specs.Bytes.{byte_at}
+use Rattle.image_bytes.specs.Bytes.{byte_at}
 use Rattle.schedule.specs.Said.{said, Ranged}
 use Rattle.rows.specs.Fields.{field_at, length_at, body_at, GoodField}
 use Rattle.rows.specs.Unclosed.{Unclosed}

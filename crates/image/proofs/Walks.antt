@@ -13,7 +13,7 @@ use Rattle.runs.specs.Carried.{carried, carried_all, carried_any}
 use Rattle.runs.proofs.Executions.{Valid, Valids}
 use Rattle.runs.proofs.Whole.{node_valid}
 use Rattle.bus.specs.Owning.{owns, bus_meant}
-use Rattle.bytes.specs.Bytes.{word_at}
+use Rattle.image_bytes.specs.Bytes.{word_at}
 use Rattle.schedule.specs.Said.{said}
 use Rattle.nodes.specs.Nodes.{node_of, meant, kind_meant, tree_at, child_trees, turn_trees}
 use Rattle.image.specs.Tasks.{task_of}

@@ -6,7 +6,7 @@ use Rattle.runs.specs.Slots.{equal_slots}
 use Rattle.runs.specs.Schedules.{total, owns, any, last_of, owns_next, owning}
 use Rattle.runs.specs.Lines.{power}
 use Rattle.runs.specs.Nodes.{trees, tree_by, tree_to, tree, depth, visits, lines_to}
-use Rattle.bytes.specs.Bytes.{word_at, words}
+use Rattle.image_bytes.specs.Bytes.{word_at, words}
 use Rattle.schedule.specs.Said.{bus_ok, turns_at, turns_ok, has_pair, schedule_ok, said}
 use Rattle.rows.specs.Tests.{tag_ok, room_ok, node_length_ok, length_ok, starts_ok, plain_ok, access_ok, block_ok, once_ok, loop_ok, node_value_ok, value_ok, below, children_ok, entry_ok}
 use Rattle.image.specs.Judged.{field_of, end_of, scan_from, scan, whole_of, judged, refused, numbered}

@@ -2,7 +2,7 @@
 -- place. No order of steps is in it: each condition names what comes before it. proofs/Reasons.antt proves that the verdict is a
 -- refusal for r at a place if and only if `Condition s r place`. Definitions only.
 use Rattle.std.specs.Prelude.{◌≡◌, List, ℕ, suc, ◌+◌, ◌-◌, ◌*◌, ◌≤◌, ◌<◌, length}
-use Rattle.bytes.specs.Bytes.{word_at}
+use Rattle.image_bytes.specs.Bytes.{word_at}
 use Rattle.runs.specs.Lines.{power}
 use Rattle.runs.specs.Nodes.{depth, visits}
 use Rattle.schedule.specs.Said.{said}

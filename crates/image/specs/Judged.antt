@@ -4,7 +4,7 @@ use Prim.Native.String.{String}
 use Rattle.runs.specs.Lines.{power}
 use Rattle.runs.specs.Nodes.{depth, visits}
 use Rattle.runs.specs.Runs.{Task}
-use Rattle.bytes.specs.Bytes.{byte_at, word_at}
+use Rattle.image_bytes.specs.Bytes.{byte_at, word_at}
 use Rattle.schedule.specs.Said.{said}
 use Rattle.rows.specs.Tests.{tag_ok, room_ok, length_ok, value_ok, children_ok, entry_ok}
 use Rattle.rows.specs.Fields.{field_at, body_at}

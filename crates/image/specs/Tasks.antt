@@ -3,7 +3,7 @@
 use Rattle.std.specs.Prelude.{cond, List, ℕ, ◌+◌, ltb}
 use Rattle.runs.specs.Runs.{Task}
 use Rattle.runs.specs.Carried.{row}
-use Rattle.bytes.specs.Bytes.{word_at, bytes}
+use Rattle.image_bytes.specs.Bytes.{word_at, bytes}
 use Rattle.schedule.specs.Said.{said}
 use Rattle.image.specs.declared.Outline.{Outline}
 use Rattle.rows.specs.Fields.{field_at}

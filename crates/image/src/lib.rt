@@ -20,7 +20,7 @@ ghost use Rattle.nodes.specs.Fine.{Placed};
 
 use crate::fields::{End, fields};
 use bus::Bus;
-use bytes::word;
+use image_bytes::word;
 use nodes::fetched::{lines, power};
 use nodes::weigh::weights;
 use refusals::Refusal;

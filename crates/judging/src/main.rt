@@ -3,7 +3,7 @@
 // tests/make-judging makes the input and the expected lines, and names each case.
 #![tactic(auto)]
 
-use bytes::word;
+use image_bytes::word;
 use image::{Verdict, judge};
 use libc::{STDIN_FILENO, STDOUT_FILENO};
 use refusals::number;

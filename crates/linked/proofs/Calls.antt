@@ -8,7 +8,7 @@ use lib.Dec.{ltb}
 use lib.Seq.{take_all}
 use native.Mathlib.Omega.{arith}
 use Prim.Native.Nat.{ℕ, ◌≤◌, ◌<◌}
-use Rattle.bytes.specs.Bytes.{byte_at}
+use Rattle.image_bytes.specs.Bytes.{byte_at}
 use Rattle.image.specs.Judged.{numbered_of, numbered}
 use Rattle.refusals.specs.Refusals.{number_of}
 use Rattle.image.specs.Promise.{Judging}

@@ -9,7 +9,7 @@ use lib.Seq.{get_or-set_same, get_or-set_other}
 use borrow.Author.Count.{below_more}
 use Rattle.runs.specs.Nodes.{trees, tree_by, Children as Named, depth, deepest, visits, visits_all}
 use Rattle.runs.proofs.Trees.{tree_is}
-use Rattle.bytes.specs.Bytes.{word_at}
+use Rattle.image_bytes.specs.Bytes.{word_at}
 use Rattle.rows.specs.Fields.{field_at}
 use Rattle.rows.specs.Unclosed.{Unclosed}
 use Rattle.nodes.specs.Nodes.{node_of, meant, node_at, tree_at, child_trees}

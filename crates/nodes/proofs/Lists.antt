@@ -9,7 +9,7 @@ use lib.Dec.{eqb}
 use borrow.Author.Tests.{eq-eqb}
 use Rattle.runs.specs.Nodes.{All}
 use Rattle.runs.specs.Runs.{is_start}
-use Rattle.bytes.specs.Bytes.{byte_at, word_at, bytes, words}
+use Rattle.image_bytes.specs.Bytes.{byte_at, word_at, bytes, words}
 use Rattle.schedule.proofs.Numbers.{or_true}
 
 module _ (s : List ℕ) (p n i : ℕ) where

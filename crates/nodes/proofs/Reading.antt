@@ -5,8 +5,8 @@ use lib.Dec.{eqb}
 use native.Mathlib.Omega.{arith}
 use Prim.Native.Nat.{ℕ, ◌+◌, ◌*◌, ◌/◌, ◌<◌}
 use Rattle.runs.specs.Nodes.{Node as RunNode}
-use Rattle.bytes.specs.Bytes.{words}
-use Rattle.bytes.proofs.Agreeing.{Agree, agree_first, agree_here, word_here, agree_word, agree_words}
+use Rattle.image_bytes.specs.Bytes.{words}
+use Rattle.image_bytes.proofs.Agreeing.{Agree, agree_first, agree_here, word_here, agree_word, agree_words}
 use Rattle.schedule.specs.Said.{within}
 use Rattle.rows.specs.Fields.{field_at, tag_at, length_at, body_at, GoodField}
 use Rattle.nodes.specs.Nodes.{node_from, meant, node_at}

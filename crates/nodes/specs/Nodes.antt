@@ -2,7 +2,7 @@
 -- The image's bytes are the only source of a task's nodes. Definitions only.
 use Rattle.std.specs.Prelude.{cond, List, ℕ, ◌+◌, ◌/◌, eqb}
 use Rattle.runs.specs.Nodes.{Kind as RunKind, may, always, Node as RunNode, Tree, Trees, none, more, tree, trees, lines_to}
-use Rattle.bytes.specs.Bytes.{byte_at, word_at, words}
+use Rattle.image_bytes.specs.Bytes.{byte_at, word_at, words}
 use Rattle.schedule.specs.Said.{within}
 use Rattle.nodes.specs.declared.Kind.{Kind}
 use Rattle.nodes.specs.declared.Kind.TheVariants.{May, Always}

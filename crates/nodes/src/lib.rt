@@ -7,7 +7,7 @@
 ghost use Rattle.std.specs.Prelude.{◌≡◌, ◌≤◌, length};
 ghost use Rattle.nodes.specs.Nodes.{kind_of, node_of};
 
-use bytes::{byte, word};
+use image_bytes::{byte, word};
 
 pub mod fetched;
 pub mod weigh;

@@ -7,7 +7,7 @@ ghost use Rattle.nodes.specs.Fine.{Standing, Placed};
 ghost use Rattle.nodes.specs.Weights.{Weighed, Together, OverTurns, Weighs};
 
 use crate::{Loop, Node, node_at};
-use bytes::word;
+use image_bytes::word;
 
 #[derive(Clone, Copy)]
 pub struct Weight {

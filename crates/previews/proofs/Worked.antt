@@ -8,7 +8,7 @@ use Rattle.runs.specs.Clock.{with_lines}
 use Rattle.runs.specs.Nodes.{trees, tree_by, tree_to, tree, depth, visits, lines_to}
 use Rattle.runs.specs.Carried.{carried}
 use Rattle.runs.specs.Figures.{no_time, start_times, start_set, longer, later, longest_of, at_offsets, cost, entry_of, held, sum}
-use Rattle.bytes.specs.Bytes.{word_at, words, bytes}
+use Rattle.image_bytes.specs.Bytes.{word_at, words, bytes}
 use Rattle.schedule.specs.Said.{bus_ok, said}
 use Rattle.rows.specs.Tests.{tag_ok, room_ok, node_length_ok, length_ok, starts_ok, plain_ok, access_ok, block_ok, loop_ok, node_value_ok, value_ok, below, children_ok, entry_ok}
 use Rattle.image.specs.Judged.{field_of, end_of, scan_from, scan, whole_of, judged}

@@ -13,7 +13,7 @@ use Rattle.runs.proofs.Bounds.{cost_bounded}
 use Rattle.bus.specs.Owning.{bus_meant}
 use Rattle.offsets.specs.declared.Set.{Set}
 use Rattle.offsets.specs.Sets.{value}
-use Rattle.bytes.specs.Bytes.{word_at}
+use Rattle.image_bytes.specs.Bytes.{word_at}
 use Rattle.nodes.specs.Nodes.{tree_at, child_trees}
 use Rattle.image.specs.Walks.{Walkable, NamedChildren}
 use Rattle.image.specs.declared.Walk.{Walk}

@@ -15,7 +15,7 @@ use Rattle.runs.proofs.Loops.{unrolled_none, unrolled_one, unrolled_both, unroll
 use Rattle.bus.specs.declared.Bus.{Bus}
 use Rattle.bus.specs.Owning.{bus_meant}
 use Rattle.offsets.specs.declared.Set.{Set}
-use Rattle.bytes.specs.Bytes.{word_at}
+use Rattle.image_bytes.specs.Bytes.{word_at}
 use Rattle.nodes.specs.Nodes.{tree_at, child_trees}
 use Rattle.image.proofs.Walks.{trees_more, trees_none}
 use Rattle.exits.specs.Exits.{Within}

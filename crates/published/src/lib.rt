@@ -236,7 +236,7 @@ fn sequence(
     let mut cur = s;
     let mut i = 0;
     while i < count {
-        let child = bytes::word(image, place + 2 * i);
+        let child = image_bytes::word(image, place + 2 * i);
         let next = walk(image, places, k, child, cur);
         cost += next.cost;
         cur = next.exits;
@@ -257,7 +257,7 @@ fn branch(image: &[u8], places: &[usize; 256], k: Walk, node: usize, c: Children
     let mut out = offsets::empty();
     let mut i = 0;
     while i < count {
-        let child = bytes::word(image, place + 2 * i);
+        let child = image_bytes::word(image, place + 2 * i);
         let arm = walk(image, places, k, child, s);
         cost = larger(cost, arm.cost);
         out = offsets::join(out, arm.exits);

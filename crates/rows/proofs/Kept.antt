@@ -6,7 +6,7 @@ use mathlib.Core.List.{List}
 use Prim.Native.Nat.{ℕ, ◌+◌, ◌≤◌, ◌<◌}
 use native.Mathlib.Omega.{arith}
 use lib.ListN.{length}
-use Rattle.bytes.specs.Bytes.{byte_at, word_at}
+use Rattle.image_bytes.specs.Bytes.{byte_at, word_at}
 use Rattle.schedule.specs.Said.{said, Ranged, slots, turns}
 use Rattle.schedule.proofs.Numbers.{is_within}
 use Rattle.rows.specs.Rules.{TagRule, RoomRule, LengthRule, Starts, ValueRule}

@@ -7,7 +7,7 @@ use native.Mathlib.Nat.{add-zero, not-suc-le-zero}
 use native.Mathlib.Omega.{arith}
 use lib.Dec.{ltb, leb}
 use borrow.Author.Tests.{ltb-true, leb-true, lt-ltb, le-leb}
-use Rattle.bytes.specs.Bytes.{byte_at, word_at}
+use Rattle.image_bytes.specs.Bytes.{byte_at, word_at}
 use Rattle.rows.specs.Tests.{starts_ok, below}
 use Rattle.rows.specs.Rules.{Starts, NamesBelow}
 use Rattle.schedule.proofs.Numbers.{both}

@@ -7,8 +7,8 @@ use lib.Dec.{eqb, leb, ltb}
 use borrow.Author.Tests.{eqb-true}
 use native.Mathlib.Omega.{arith}
 use Prim.Native.Nat.{ℕ, zero, suc, ◌+◌, ◌*◌, ◌/◌, ◌%◌, ◌≤◌}
-use Rattle.bytes.specs.Bytes.{byte_at, word_at}
-use Rattle.bytes.proofs.Agreeing.{Agree, agree_part, agree_first, agree_here, word_here, agree_word}
+use Rattle.image_bytes.specs.Bytes.{byte_at, word_at}
+use Rattle.image_bytes.proofs.Agreeing.{Agree, agree_part, agree_first, agree_here, word_here, agree_word}
 use Rattle.schedule.specs.Said.{within, said}
 use Rattle.schedule.proofs.Numbers.{both}
 use Rattle.schedule.proofs.Writings.{agree_turns}

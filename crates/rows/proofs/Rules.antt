@@ -8,7 +8,7 @@ use native.Mathlib.Omega.{arith}
 use lib.ListN.{length}
 use lib.Dec.{eqb, leb, ltb}
 use borrow.Author.Tests.{eqb-true, eqb-false, eq-eqb, ne_eqb, leb-true, le-leb, ltb-true, lt-ltb}
-use Rattle.bytes.specs.Bytes.{byte_at, word_at}
+use Rattle.image_bytes.specs.Bytes.{byte_at, word_at}
 use Rattle.schedule.specs.Said.{within, said}
 use Rattle.schedule.proofs.Sayings.{ranges_kept, kept_ranges, schedule_kept, kept_schedule}
 use Rattle.schedule.proofs.Pairs.{turns_length}

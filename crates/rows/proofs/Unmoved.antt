@@ -6,8 +6,8 @@ use lib.ListN.{length}
 use native.Mathlib.Omega.{arith}
 use Prim.Native.Nat.{ℕ, zero, suc, ◌+◌, ◌≤◌, ◌<◌}
 use Rattle.runs.specs.Bus.{Bus}
-use Rattle.bytes.specs.Bytes.{byte_at, word_at}
-use Rattle.bytes.proofs.Agreeing.{Agree, agree_here, agree_word}
+use Rattle.image_bytes.specs.Bytes.{byte_at, word_at}
+use Rattle.image_bytes.proofs.Agreeing.{Agree, agree_here, agree_word}
 use Rattle.schedule.specs.Said.{said}
 use Rattle.rows.specs.Tests.{value_ok, children_ok, entry_ok}
 use Rattle.rows.specs.Fields.{field_at, tag_at, length_at, body_at, closed_at, GoodField}

@@ -1,6 +1,6 @@
 -- A field of an image: where it stands, and how far it is good. Definitions only.
 use Rattle.std.specs.Prelude.{Bool, false, List, ℕ, zero, suc, ◌+◌, ◌-◌, ◌≤◌, ◌<◌, length, eqb}
-use Rattle.bytes.specs.Bytes.{byte_at, word_at}
+use Rattle.image_bytes.specs.Bytes.{byte_at, word_at}
 use Rattle.rows.specs.Rules.{TagRule, RoomRule, LengthRule, ValueRule, ChildRule, EntryRule}
 
 -- "Every field is a one-byte tag, a two-byte length of its body, and the body": where the field with k fields before it stands

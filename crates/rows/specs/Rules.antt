@@ -4,7 +4,7 @@
 -- these rules hold is proofs/Rules.antt. Definitions only.
 use Rattle.std.specs.Prelude.{◌≡◌, ◌⊎◌, Bool, false, List, ℕ, ◌+◌, ◌-◌, ◌*◌, ◌/◌, ◌≤◌, ◌<◌}
 use Rattle.bus.specs.Waits.{Ranges}
-use Rattle.bytes.specs.Bytes.{byte_at, word_at}
+use Rattle.image_bytes.specs.Bytes.{byte_at, word_at}
 use Rattle.schedule.specs.Said.{schedule_of, said, Scheduled}
 
 -- 2: "Field 1 comes first, field 2 second, then 1 to 256 node fields (tags 3 to 7)"; tag 9 may stand "in place of tag 1" (W5), and 10 is a node's (W9).

@@ -1,6 +1,6 @@
 -- The rows' tests, as the program makes them: each is true if and only if the rule of specs/Rules.antt holds (proofs/Rules.antt). Definitions only.
 use Rattle.std.specs.Prelude.{Bool, true, false, cond, ◌&&◌, List, ℕ, zero, suc, ◌+◌, ◌-◌, ◌/◌, ◌%◌, eqb, leb, ltb}
-use Rattle.bytes.specs.Bytes.{byte_at, word_at}
+use Rattle.image_bytes.specs.Bytes.{byte_at, word_at}
 use Rattle.schedule.specs.Said.{within, bus_ok, schedule_of, schedule_ok, said}
 
 -- n is from low to high, and even where `odd` is 0, odd where it is 1

@@ -10,7 +10,7 @@ ghost use Rattle.std.specs.Prelude.{◌≡◌, ◌+◌, ◌*◌, ◌<◌};
 ghost use Rattle.schedule.specs.Said.{Ranged};
 ghost use Rattle.rows.specs.Tests.{parity_within, tag_ok, room_ok, node_length_ok, length_ok, starts_ok, plain_ok, access_ok, block_ok, once_ok, loop_ok, node_value_ok, value_ok, below, children_ok, entry_ok};
 
-use bytes::{byte, word};
+use image_bytes::{byte, word};
 use schedule::{between, bus_ok, most_at, period_at, schedule_ok};
 
 // Is n from low to high, and even, or odd where `odd` is 1?

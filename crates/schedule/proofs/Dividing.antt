@@ -20,7 +20,7 @@ use Rattle.offsets.proofs.Raises.{in_up, from_up}
 use Rattle.bus.specs.declared.Bus.{Bus}
 use Rattle.bus.specs.Stretches.{begun}
 use Rattle.bus.specs.Owning.{bus_meant, owns as owns_of}
-use Rattle.bytes.specs.Bytes.{byte_at, word_at}
+use Rattle.image_bytes.specs.Bytes.{byte_at, word_at}
 use Rattle.schedule.specs.Said.{turns_at, schedule_at, Scheduled}
 use Rattle.schedule.specs.Inner.{Divides}
 use Rattle.schedule.specs.declared.Divided.{Divided}

@@ -9,7 +9,7 @@ use lib.Dec.{leb}
 use lib.ListN.{length}
 use borrow.Author.Tests.{le-leb, lt-leb, eq-eqb, ne_eqb}
 use Rattle.runs.specs.Schedules.{Turn, Schedule, total}
-use Rattle.bytes.specs.Bytes.{byte_at}
+use Rattle.image_bytes.specs.Bytes.{byte_at}
 use Rattle.schedule.specs.Said.{within, turns_at, turns_ok, has_pair, schedule_ok}
 
 -- as many as are read

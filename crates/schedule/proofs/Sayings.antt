@@ -19,7 +19,7 @@ use Rattle.bus.specs.declared.Bus.{Bus as OwnedBus}
 use Rattle.bus.specs.Owning.{bus_meant, Slotted}
 use Rattle.bus.proofs.EqualSlots.{slotted_bus}
 use Rattle.bus.proofs.Ranges.{has_slot}
-use Rattle.bytes.specs.Bytes.{byte_at}
+use Rattle.image_bytes.specs.Bytes.{byte_at}
 use Rattle.schedule.specs.Said.{within, bus_ok, slots_at, schedule_at, turns_ok, has_pair, schedule_ok, said, Turns, HasPair, Scheduled, Ranged, slots, turns}
 use Rattle.schedule.proofs.Numbers.{eq_or_ne, both, or_true, is_within}
 

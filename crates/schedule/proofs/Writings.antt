@@ -15,8 +15,8 @@ use Rattle.runs.proofs.EvenSchedules.{total_even, either_way}
 use Rattle.bus.specs.Waits.{slots_of, Ranges}
 use Rattle.bus.specs.declared.Slots.{Slots}
 use Rattle.bus.proofs.Ranges.{has_slot}
-use Rattle.bytes.specs.Bytes.{byte_at, word_at}
-use Rattle.bytes.proofs.Agreeing.{Agree, agree_part, agree_here, agree_word, behind}
+use Rattle.image_bytes.specs.Bytes.{byte_at, word_at}
+use Rattle.image_bytes.proofs.Agreeing.{Agree, agree_part, agree_here, agree_word, behind}
 use Rattle.schedule.specs.Said.{turns_at, schedule_at, turns_ok, has_pair, schedule_ok, said}
 use Rattle.schedule.specs.Written.{pairs, turns_field}
 use Rattle.schedule.proofs.Numbers.{eq_or_ne}

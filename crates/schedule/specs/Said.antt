@@ -5,7 +5,7 @@ use Rattle.runs.specs.Bus.{Bus}
 use Rattle.runs.specs.Slots.{Slots, equal_slots}
 use Rattle.runs.specs.Schedules.{Turn, Schedule, total, unequal_slots}
 use Rattle.bus.specs.Waits.{Ranges}
-use Rattle.bytes.specs.Bytes.{byte_at, word_at}
+use Rattle.image_bytes.specs.Bytes.{byte_at, word_at}
 
 -- n is from low to high
 abbrev pub within : ℕ → ℕ → ℕ → Bool

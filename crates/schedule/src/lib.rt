@@ -15,7 +15,7 @@ ghost use Rattle.schedule.specs.Said.{within, bus_ok, turns_at, schedule_of, sch
 ghost use Rattle.schedule.specs.Inner.{Divides};
 
 use bus::{Bus, Slots};
-use bytes::{byte, word};
+use image_bytes::{byte, word};
 use offsets::Set;
 
 // The offsets that the analysed core owns, those that it does not, and the period.

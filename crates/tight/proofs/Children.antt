@@ -8,7 +8,7 @@ use Prim.Native.Nat.{ℕ, ◌+◌, ◌-◌, ◌*◌, ◌≤◌, ◌<◌}
 use Rattle.runs.specs.Nodes.{Tree, visits, visits_all}
 use Rattle.runs.specs.Figures.{Time, longer, later}
 use Rattle.runs.proofs.Joins.{longer_joins}
-use Rattle.bytes.specs.Bytes.{word_at}
+use Rattle.image_bytes.specs.Bytes.{word_at}
 use Rattle.nodes.specs.Nodes.{tree_at, child_trees}
 use Rattle.image.specs.Walks.{Walkable, NamedChildren}
 use Rattle.image.proofs.Walks.{all_more, any_more, valid_at}

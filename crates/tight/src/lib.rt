@@ -97,7 +97,7 @@ fn sequence(image: &[u8], places: &[usize; 256], k: Walk, node: usize, c: Childr
     let count = c.count;
     let mut i = 0;
     while i < count {
-        let child = bytes::word(image, place + 2 * i);
+        let child = image_bytes::word(image, place + 2 * i);
         walk(image, places, k, child, t);
         i += 1;
     }
@@ -156,7 +156,7 @@ fn arms(
     let count = c.count;
     let mut i = 0;
     while i < count {
-        let child = bytes::word(image, place + 2 * i);
+        let child = image_bytes::word(image, place + 2 * i);
         times::copy(arm, t, n);
         walk(image, places, k, child, arm);
         times::join(out, arm, n);

@@ -10,7 +10,7 @@ use Rattle.runs.specs.Runs.{is_start}
 use Rattle.offsets.specs.Sets.{value, has}
 use Rattle.offsets.proofs.Members.{has_none}
 use Rattle.rows.specs.Fields.{length_at}
-use Rattle.bytes.specs.Bytes.{byte_at, bytes}
+use Rattle.image_bytes.specs.Bytes.{byte_at, bytes}
 use Rattle.image.specs.Tasks.{starts_of}
 use Rattle.exits.proofs.Bits.{bits_row}
 use Rattle.nodes.proofs.Lists.{listed_more}

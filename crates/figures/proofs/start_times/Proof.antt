@@ -13,7 +13,7 @@ use Rattle.runs.specs.Runs.{is_start}
 use Rattle.runs.specs.Figures.{no_time}
 use Rattle.runs.proofs.Cases.{either}
 use Rattle.rows.specs.Fields.{length_at}
-use Rattle.bytes.specs.Bytes.{byte_at, bytes}
+use Rattle.image_bytes.specs.Bytes.{byte_at, bytes}
 use Rattle.nodes.proofs.Lists.{listed_more}
 use Rattle.figures.proofs.start_times.Statement.{statement}
 use Rattle.figures.proofs.start_times.Tie as tie

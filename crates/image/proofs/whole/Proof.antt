@@ -3,7 +3,7 @@ use borrow.Author.Rules.{rules}
 use Rattle.image.proofs.whole.Statement.{statement}
 use Rattle.image.proofs.whole.Tie as tie
 use Rattle.runs.specs.Nodes.{depth, visits}
-use Rattle.bytes.specs.Bytes.{word_at}
+use Rattle.image_bytes.specs.Bytes.{word_at}
 use Rattle.rows.specs.Fields.{field_at}
 use Rattle.nodes.specs.Nodes.{tree_at, lines_of}
 use Rattle.rows.proofs.Kept.{first_end, first_fine}

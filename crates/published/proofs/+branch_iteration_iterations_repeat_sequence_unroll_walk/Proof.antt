@@ -44,7 +44,7 @@ use Rattle.published.proofs.walk.Reads as walk
 use Rattle.published.proofs.walk.Kinds as walk-kinds
 use Rattle.published.proofs.+branch_iteration_iterations_repeat_sequence_unroll_walk.Lts-walk as walk-lts
 use Rattle.nodes.proofs.node_at.Reads as node-at-reads
-use Rattle.bytes.proofs.word.Reads as word-reads
+use Rattle.image_bytes.proofs.word.Reads as word-reads
 use Rattle.offsets.proofs.empty.Reads as empty-reads
 use Rattle.offsets.proofs.join.Reads as join-reads
 use Rattle.published.proofs.before_first.Reads as before-first-reads

@@ -3,7 +3,7 @@ use borrow.Author.Rules.{rules}
 use Rattle.rows.proofs.all_below.Statement.{statement}
 use Rattle.rows.proofs.all_below.Tie as tie
 use Rattle.rows.specs.Tests.{below}
-use Rattle.bytes.specs.Bytes.{word_at}
+use Rattle.image_bytes.specs.Bytes.{word_at}
 use mathlib.Core.Path.{◌≡◌, sym, ◌∙◌}
 use mathlib.Core.Bool.{true, ◌&&◌}
 use mathlib.Core.List.{List}

@@ -3,7 +3,7 @@ use borrow.Author.Rules.{rules}
 use Rattle.rows.proofs.starts_ok.Statement.{statement}
 use Rattle.rows.proofs.starts_ok.Tie as tie
 use Rattle.rows.specs.Tests.{starts_ok}
-use Rattle.bytes.specs.Bytes.{byte_at}
+use Rattle.image_bytes.specs.Bytes.{byte_at}
 use mathlib.Core.Path.{◌≡◌, sym, ◌∙◌}
 use mathlib.Core.Bool.{true, ◌&&◌}
 use mathlib.Core.List.{List}

@@ -7,7 +7,7 @@ use lib.Bits.{bit_or}
 use lib.Dec.{eqb}
 use borrow.Author.Rules.{rules}
 use Rattle.offsets.specs.Sets.{value}
-use Rattle.bytes.specs.Bytes.{byte_at}
+use Rattle.image_bytes.specs.Bytes.{byte_at}
 use Rattle.schedule.proofs.Dividing.{cycles, Sofar, sofar_first, sofar_fits, sofar_next, divides}
 use Rattle.schedule.proofs.divide.Statement.{statement}
 use Rattle.schedule.proofs.divide.Tie as tie

@@ -9,7 +9,7 @@ use native.Mathlib.Omega.{arith}
 use borrow.Author.Rules.{rules}
 use borrow.Author.Tests.{not-true, not-false}
 use Rattle.runs.specs.Schedules.{Turn}
-use Rattle.bytes.specs.Bytes.{byte_at}
+use Rattle.image_bytes.specs.Bytes.{byte_at}
 use Rattle.schedule.specs.Said.{within, turns_at, schedule_of, schedule_ok}
 use Rattle.schedule.proofs.Pairs.{turns_step, turns_none, goes_on, goes_first, goes_last, core_above, length_wrong, sum_above, goes_found, goes_other}
 use Rattle.schedule.proofs.schedule_ok.Statement.{statement}

@@ -53,7 +53,7 @@ use Rattle.tight.proofs.wide_turns.Reads as wide-turns
 use Rattle.tight.proofs.wide_turns.Kinds as wide-turns-kinds
 use Rattle.tight.proofs.+arms_branch_iteration_repeat_sequence_turns_unroll_walk_wide_branch_wide_turns.Lts-wide_turns as wide-turns-lts
 use Rattle.nodes.proofs.node_at.Reads as node-at-reads
-use Rattle.bytes.proofs.word.Reads as word-reads
+use Rattle.image_bytes.proofs.word.Reads as word-reads
 use Rattle.iterations.proofs.before_first.Reads as before-first-reads
 use Rattle.tight.proofs.bus_block.Reads as bus-block-reads
 use Rattle.iterations.proofs.joined.Reads as joined-reads

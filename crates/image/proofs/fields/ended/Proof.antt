@@ -5,7 +5,7 @@ use Rattle.image.proofs.fields.ended.Tie as tie
 use Rattle.image.specs.Judged.{end_of}
 use mathlib.Core.Path.{◌≡◌, ◌∙◌, ap}
 use Prim.Native.Nat.{◌+◌, ◌-◌}
-use Rattle.bytes.specs.Bytes.{word_at}
+use Rattle.image_bytes.specs.Bytes.{word_at}
 use Rattle.rows.specs.Fields.{field_at}
 use native.Mathlib.Omega.{arith}
 use borrow.Author.Tests.{lt-ltb, le-ltb}

@@ -1,7 +1,7 @@
 -- The invariant: the greatest depth so far, with what is left, is the greatest of all, and the sum so far, with what is left, the whole sum; both
 -- up to the caps.
 use Rattle.runs.specs.Nodes.{depth, deepest, visits as visited, visits_all}
-use Rattle.bytes.specs.Bytes.{word_at}
+use Rattle.image_bytes.specs.Bytes.{word_at}
 use Rattle.nodes.specs.Nodes.{tree_at, child_trees}
 use Rattle.nodes.proofs.Numbers.{max_out}
 use Rattle.nodes.proofs.Levels.{deepest_step, deepest_none, visits_step, visits_none}

@@ -1,0 +1,47 @@
+use mathlib.Core.Path.{refl}
+use native.Mathlib.Omega.{arith}
+use Rattle.bus.proofs.OfOffsets.{begun_of, fit_whole, fit_many, fit_lone}
+use Rattle.bus.proofs.of_offsets.Goals as goal
+use Rattle.bus.proofs.of_offsets.Goals.{then-stretches-eq1, else-stretches-eq1}
+
+-- Every offset, several stretches or one: the bus of OfOffsets.
+pub entered-s-requires : goal.entered-s-requires
+entered-s-requires c = c.requires.0
+
+pub in_turn-stretches-requires : goal.in_turn-stretches-requires
+in_turn-stretches-requires c =
+    let begins = c.entered-s in
+    begun_of c.requires.0 begins.result begins.ensures c.lowest-lowest.result c.lowest-lowest.ensures c.requires.1
+
+pub returns-then-stretches-eq0 : goal.returns-then-stretches-eq0
+returns-then-stretches-eq0 c =
+    let begins = c.entered-s in
+    let low = c.lowest-lowest in
+    let list = c.in_turn-stretches in
+    (fit_whole c.requires.0 begins.result begins.ensures low.result low.ensures list.result list.ensures c.if-stretches-eq0.true, refl, refl)
+
+pub longest-longest-requires : goal.longest-longest-requires
+longest-longest-requires c =
+    let list = c.in_turn-stretches.ensures in
+    (omega (arith, c.if-stretches-eq0.false), list.few, list.lengths_long)
+
+pub bounds-stretches-longest : goal.bounds-stretches-longest
+bounds-stretches-longest c =
+    let list = c.in_turn-stretches.ensures in
+    omega (arith, c.longest-longest.ensures.below, list.few, list.lengths_long)
+
+pub bounds-stretches-longest-2 : goal.bounds-stretches-longest-2
+bounds-stretches-longest-2 c =
+    let list = c.in_turn-stretches.ensures in
+    omega (arith, c.longest-longest.ensures.below, list.few, list.begins_long)
+
+pub returns : goal.returns
+returns c =
+    let begins = c.entered-s in
+    let low = c.lowest-lowest in
+    let list = c.in_turn-stretches in
+    let far = c.longest-longest in
+    elim c.if-stretches-eq1.branch [
+      | then-stretches-eq1 w ↦ rw w.only-is (fit_lone c.requires.0 begins.result begins.ensures low.result low.ensures list.result list.ensures far.result far.ensures w.if-stretches-eq1.true, refl, refl)
+      | else-stretches-eq1 w ↦ rw w.only-is (fit_many c.requires.0 begins.result begins.ensures low.result low.ensures list.result list.ensures far.result far.ensures, refl, refl)
+    ]

@@ -1,0 +1,14 @@
+use borrow.Author.Rules.{rules}
+use mathlib.Core.Path.{sym}
+use native.Mathlib.Omega.{arith}
+use lib.ListN.{get_or-eq_default}
+use Rattle.image_bytes.proofs.byte.Goals as goal
+
+pub overflow_cast-result : goal.overflow_cast-result
+overflow_cast-result c = omega (arith, c.shared_slice_known-1.given c.args.at)
+
+pub returns-then-at-image : goal.returns-then-at-image
+returns-then-at-image c = (search rules, omega (arith, c.shared_slice_known-1.given c.args.at))
+
+pub returns : goal.returns
+returns c = (sym (get_or-eq_default c.args.image.now 0 c.if-at-image.false), omega arith)
