@@ -2,7 +2,7 @@
 use borrow.Author.Rules.{rules}
 use mathlib.Core.Path.{◌≡◌, refl, ◌∙◌, ap}
 use mathlib.Core.Logic.{⊎_elim}
-use mathlib.Core.Bool.{Bool, not, ◌||◌, or_false}
+use mathlib.Core.Bool.{Bool, not, ◌||◌, or-false}
 use mathlib.Core.List.{List}
 use lib.Dec.{eqb}
 use lib.ListN.{get_or}
@@ -44,7 +44,7 @@ joined t o m e h = record {
       split o j
       (λ g. let q : j ≡ o = omega arith in
       rw (q, has_more m o o, has_above m o o h.within (le_refl o), eq-eqb o o refl, ne_eqb (get_or t o 0) no_time e))
-      (λ g. has_more m o j ∙ ap (λ (b : Bool). has m j || b) (ne_eqb o j (λ q. omega arith)) ∙ or_false (has m j) ∙ h.members j g);
+      (λ g. has_more m o j ∙ ap (λ (b : Bool). has m j || b) (ne_eqb o j (λ q. omega arith)) ∙ or-false (has m j) ∙ h.members j g);
 }
 
 abbrev invariant-loop : tie.invariant-loop

@@ -1,7 +1,7 @@
 -- Before each turn a place holds 0 where it is one of the first i starts, and no time elsewhere; so after the last the array holds the start table.
 use borrow.Author.Rules.{rules}
 use mathlib.Core.Path.{◌≡◌, sym, ◌∙◌, refl}
-use mathlib.Core.Bool.{cond, or_true, or_false}
+use mathlib.Core.Bool.{cond, or-true, or-false}
 use mathlib.Core.List.{List}
 use lib.Dec.{eqb}
 use lib.ListN.{length, get_or, set, length-set, get_or-replicate}
@@ -23,8 +23,8 @@ written : (s out : List ℕ) (p i at o : ℕ) → at ≡ byte_at s (p + i) → a
     → get_or (set out at 0) o 0 ≡ cond (is_start (bytes s p (i + 1)) o) 0 no_time
 written s out p i at o e l h =
     either (eqb at o)
-    (λ q. let same : o ≡ at = sym (eqb-true at o q) in rw (listed_more s p i o, ← e, q, or_true, same) (get_or-set_same out at 0 0 l))
-    (λ q. rw (listed_more s p i o, ← e, q, or_false) (get_or-set_other out at o 0 0 (λ z. eqb-false at o q (sym z)) ∙ h))
+    (λ q. let same : o ≡ at = sym (eqb-true at o q) in rw (listed_more s p i o, ← e, q, or-true, same) (get_or-set_same out at 0 0 l))
+    (λ q. rw (listed_more s p i o, ← e, q, or-false) (get_or-set_other out at o 0 0 (λ z. eqb-false at o q (sym z)) ∙ h))
 
 abbrev invariant-loop : tie.invariant-loop
 invariant-loop image place period n out₀ i₀ out i =
