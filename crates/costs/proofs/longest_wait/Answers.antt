@@ -1,0 +1,37 @@
+use mathlib.Core.Path.{◌≡◌}
+use mathlib.Core.Logic.{⊎_elim}
+use Prim.Native.Nat.{ℕ, ◌<◌}
+use Rattle.bus.specs.Owning.{owns}
+use Rattle.offsets.specs.Sets.{value}
+use Rattle.costs.proofs.LongestWaits.{longest_past, longest_few, longest_near}
+use native.Mathlib.Omega.{arith}
+use Rattle.costs.proofs.longest_wait.Goals as goal
+
+pub returns-then-before-gt0 : goal.returns-then-before-gt0
+returns-then-before-gt0 c =
+    let a = c.args in
+    λ y gone n l few so.
+    longest_past a.b.period (owns a.b) (value a.s) a.e a.x a.len a.gap y a.before gone n c.requires.1 l few so a.floor _
+    (omega (arith, c.if-len-e.true)) (omega (arith, c.if-before-gt0.true)) (omega arith)
+
+pub overflow_sub-gap : goal.overflow_sub-gap
+overflow_sub-gap c = omega (arith, c.requires.1)
+
+pub returns-then-gap-e : goal.returns-then-gap-e
+returns-then-gap-e c =
+    let a = c.args in
+    λ y gone n l few so.
+    longest_few a.b.period (owns a.b) (value a.s) a.e a.x a.len a.gap y a.before gone n c.requires.1 l few so a.floor
+    (omega (arith, c.if-e-len.true)) (omega (arith, c.if-gap-e.true, c.requires.1))
+
+pub returns : goal.returns
+returns c =
+    let a = c.args in
+    let less = c.smaller in
+    let at = c.turn_by in
+    let free = c.ahead in
+    let none : a.len < a.e → ◌≡◌ {A = ℕ} a.before 0 =
+    λ h. ⊎_elim (λ w. omega (arith, w.1.false)) (λ w. omega (arith, w.false)) c.if-len-e.came in
+    λ y gone n l few so.
+    longest_near a.b.period (owns a.b) (value a.s) a.e a.x a.len a.gap y a.before gone n c.requires.1 l few so a.floor _ at.result free.result _
+    (omega (arith, less.ensures)) none at.ensures.1 free.ensures (omega (arith, less.ensures, c.smaller-2.ensures))

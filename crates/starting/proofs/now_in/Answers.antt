@@ -1,0 +1,99 @@
+use mathlib.Core.Path.{◌≡◌, refl, sym, ◌∙◌, ap, subst}
+use mathlib.Core.List.{List}
+use Prim.Native.Nat.{ℕ, suc, ◌+◌, ◌-◌, ◌%◌}
+use native.Mathlib.Nat.{mod-lt, mod-add-mod}
+use lib.ListN.{length-set}
+use Rattle.runs.specs.Exact.{Longest}
+use Rattle.times.specs.Arrays.{time_of, table_of}
+use Rattle.windows.specs.Windows.{top, Turns, time_at}
+use Rattle.windows.proofs.Tops.{top_zero}
+use Rattle.starting.specs.Starting.{EndsAt}
+use Rattle.starting.proofs.Nows.{window_top, top_next, ends_at, now_none, now_more, now_done}
+use native.Mathlib.Omega.{arith}
+use Rattle.starting.proofs.now_in.Goals as goal
+use Rattle.starting.proofs.now_in.Goals.{After-window-x, At-loop-y, Start}
+
+-- where a turn began, and the function; the keys
+abbrev turn : After-window-x → At-loop-y
+turn c = c.before.before.before.before.before
+
+abbrev start : After-window-x → Start
+start c = (turn c).before.before.before.before.before.before.before.before.before.before
+
+abbrev keys : After-window-x → List ℕ
+keys c = c.before.before.before.before.before.before.before.before.before.before.keys_in.new.1.0
+
+-- what the turn knows of the largest key so far, and of the window that ends at y
+run_is : (c : After-window-x) → c.before.before.larger.result ≡ top (keys c) 0 (suc ((turn c).loop.y - (start c).args.lo))
+run_is c = top_next _ _ _ _ (turn c).loop.invariant.9 c.before.before.larger.ensures
+
+ends : (c : After-window-x) → (
+    Turns c.window-x.result (turn c).loop.y
+    × ((r : ℕ) → r ≡ time_at c.window-x.result (turn c).loop.y
+    → Longest (EndsAt (start c).args.period (table_of (start c).args.period (start c).args.t.now) (start c).args.a (start c).args.lo (start c).args.hi (turn c).loop.y) (time_of r)))
+ends c =
+    let a = (start c).args in
+    let p = (start c).requires in
+    let l = (turn c).loop in
+    let in' = c.loop-y-test.true in
+    ends_at a.period (omega (arith, p.0)) _ _ a.a a.len a.lo a.hi p.2 p.3 p.4 p.6 l.inv.7 l.y l.inv.0 in' c.window-x.result
+    (window_top _ _ a.len a.lo a.hi l.y c.before.before.larger.result c.window-x.result p.3 p.4 l.inv.0 in' (run_is c) l.inv.8
+    (λ h. c.window-x.ensures.0 (omega arith)) (λ h. c.window-x.ensures.1 (omega arith)))
+
+pub returns-then-len-lo : goal.returns-then-len-lo
+returns-then-len-lo c =
+    let a = c.args in
+    let p = c.requires in
+    (p.7, p.8, p.9, now_done a.period _ a.a a.len a.lo a.hi (suc a.len) _ _ refl (now_none _ _ _ _ _ _ _ (omega (arith, c.if-len-lo.true))))
+
+pub loop-y-init : goal.loop-y-init
+loop-y-init c =
+    let a = c.args in
+    let k = c.keys_in.ensures in
+    let z : a.lo - a.lo ≡ 0 = omega arith in (
+      omega arith,
+      omega (arith, c.if-len-lo.false),
+      k.0,
+      c.two_pass.ensures.0 ∙ k.1,
+      c.requires.9,
+      mod-lt (a.a + a.lo) (omega (arith, c.requires.0)),
+      refl,
+      k.2,
+      c.two_pass.ensures.1,
+      rw z (sym (top_zero _ 0)),
+      now_none _ _ _ _ _ _ _ (omega arith),
+    )
+
+pub unkey-requires : goal.unkey-requires
+unkey-requires c = ((ends (goal.at.unkey-requires c).After-way_told-in-loop-y-1).0, omega (arith, (start (goal.at.unkey-requires c).After-way_told-in-loop-y-1).requires.2, c.loop-y-test.true))
+
+pub loop-y-preserved : goal.loop-y-preserved
+loop-y-preserved c =
+    let w = (goal.at.loop-y-preserved c).After-way_told-in-loop-y-1 in
+    let a = (start w).args in
+    let p = (start w).requires in
+    let l = (turn w).loop in
+    let v = l.inv in
+    let on : a.a + l.y + 1 ≡ a.a + (l.y + 1) = omega arith in
+    let q : c.turn-q.result ≡ (a.a + (l.y + 1)) % a.period =
+    c.turn-q.ensures ∙ ap (λ (x : ℕ). (x + 1) % a.period) v.6 ∙ mod-add-mod (a.a + l.y) a.period 1 ∙ ap (λ (x : ℕ). x % a.period) on in
+    let n : suc (l.y - a.lo) ≡ l.y + 1 - a.lo = omega (arith, v.0) in (
+      omega (arith, v.0),
+      omega (arith, c.loop-y-test.true),
+      v.2,
+      v.3,
+      simp length-set (omega (arith, v.4)),
+      omega (arith, q, mod-lt (a.a + (l.y + 1)) {m = a.period} (omega (arith, p.0))),
+      q,
+      v.7,
+      v.8,
+      subst (λ (x : ℕ). w.larger-next.result ≡ top (keys w) 0 x) n (run_is w),
+      now_more a.period _ a.a a.lo a.hi l.y _ _ _ _ c.unkey.result _ (omega arith) v.6 (omega (arith, v.4, v.5, p.1)) v.10
+          ((ends w).1 c.unkey.result c.unkey.ensures) c.longer_of.ensures,
+    )
+
+pub returns : goal.returns
+returns c =
+    let a = c.args in
+    let l = c.loop-y in
+    (l.invariant.2, l.invariant.3, l.invariant.4, now_done a.period _ a.a a.len a.lo a.hi l.y _ _ (omega (arith, l.invariant.1, c.loop-y-test.false)) l.invariant.10)
