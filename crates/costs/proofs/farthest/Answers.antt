@@ -1,5 +1,4 @@
 use mathlib.Core.Path.{◌≡◌, subst}
-use mathlib.Core.Logic.{⊎_elim}
 use Prim.Native.Nat.{ℕ, ◌+◌, ◌-◌, ◌≤◌, ◌<◌}
 use Rattle.runs.proofs.Forward.{some_len}
 use Rattle.bus.specs.Owning.{owns}
@@ -9,7 +8,7 @@ use Rattle.exits.proofs.Served.{Met, met_first, met_next}
 use Rattle.costs.proofs.LongestWaits.{Kept, longest_none, kept_first, kept_same, kept_far, slowest_any, slowest}
 use native.Mathlib.Omega.{arith}
 use Rattle.costs.proofs.farthest.Goals as goal
-use Rattle.costs.proofs.farthest.Goals.{After-longest_wait-far, After-next_stretch-n, Else-b, Joined-e-n}
+use Rattle.costs.proofs.farthest.Goals.{then-e-n, else-e-n, After-longest_wait-far, After-next_stretch-n, Else-b, Joined-e-n}
 
 -- some offset is not owned
 part : (c : Else-b) → (let b = c.args.b in b.most < b.period)
@@ -31,11 +30,11 @@ next c =
 -- the wait above which one counts
 floor_known : (c : Joined-e-n) → (
     c.args.e ≤ c.next_stretch-n.result.len → c.if-e-n.floor ≤ c.loop-gone.best)
-floor_known c h = ⊎_elim (λ w. omega (arith, w.1)) (λ w. absurd (omega (arith, w.0.false, h))) c.if-e-n.branch
+floor_known c h = elim c.if-e-n.branch [ then-e-n w ↦ omega (arith, w.floor-is) | else-e-n w ↦ absurd (omega (arith, w.if-e-n.false, h)) ]
 
 floor_none : (c : Joined-e-n) → (
     c.next_stretch-n.result.len < c.args.e → ◌≡◌ {A = ℕ} c.if-e-n.floor 0)
-floor_none c h = ⊎_elim (λ w. absurd (omega (arith, w.0.true, h))) (λ w. w.1) c.if-e-n.branch
+floor_none c h = elim c.if-e-n.branch [ then-e-n w ↦ absurd (omega (arith, w.if-e-n.true, h)) | else-e-n w ↦ w.floor-is ]
 
 -- how long an offset waits for it
 far : (c : After-longest_wait-far) → (

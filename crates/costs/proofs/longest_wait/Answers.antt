@@ -1,11 +1,11 @@
 use mathlib.Core.Path.{◌≡◌}
-use mathlib.Core.Logic.{⊎_elim}
 use Prim.Native.Nat.{ℕ, ◌<◌}
 use Rattle.bus.specs.Owning.{owns}
 use Rattle.offsets.specs.Sets.{value}
 use Rattle.costs.proofs.LongestWaits.{longest_past, longest_few, longest_near}
 use native.Mathlib.Omega.{arith}
 use Rattle.costs.proofs.longest_wait.Goals as goal
+use Rattle.costs.proofs.longest_wait.Goals.{then-len-e+else-before-gt0, else-len-e}
 
 pub returns-then-before-gt0 : goal.returns-then-before-gt0
 returns-then-before-gt0 c =
@@ -31,7 +31,7 @@ returns c =
     let at = c.turn_by in
     let free = c.ahead in
     let none : a.len < a.e → ◌≡◌ {A = ℕ} a.before 0 =
-    λ h. ⊎_elim (λ w. omega (arith, w.1.false)) (λ w. omega (arith, w.false)) c.if-len-e.came in
+    λ h. elim c.if-len-e.branch [ then-len-e+else-before-gt0 w ↦ omega (arith, w.if-before-gt0.false) | else-len-e w ↦ omega (arith, w.if-len-e.false) ] in
     λ y gone n l few so.
     longest_near a.b.period (owns a.b) (value a.s) a.e a.x a.len a.gap y a.before gone n c.requires.1 l few so a.floor _ at.result free.result _
     (omega (arith, less.ensures)) none at.ensures.1 free.ensures (omega (arith, less.ensures, c.smaller-2.ensures))

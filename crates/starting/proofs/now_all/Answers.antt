@@ -6,17 +6,17 @@ use Rattle.bus.specs.Owning.{owns}
 use Rattle.starting.proofs.EveryNow.{up_none, up_more, up_all}
 use native.Mathlib.Omega.{arith}
 use Rattle.starting.proofs.now_all.Goals as goal
-use Rattle.starting.proofs.now_all.Goals.{After-struct_known-in-loop-gone-1, At-loop-gone, Start}
+use Rattle.starting.proofs.now_all.Goals.{After-next_stretch-n, At-loop-gone, Start}
 
 -- where a turn began, and the function
-abbrev turn : After-struct_known-in-loop-gone-1 → At-loop-gone
+abbrev turn : After-next_stretch-n → At-loop-gone
 turn c = c.before.before.before.before.before.before.before.before
 
-abbrev start : After-struct_known-in-loop-gone-1 → Start
+abbrev start : After-next_stretch-n → Start
 start c = (turn c).before.before
 
 -- a turn goes on by some cycles, and not past the first
-goes_on : (c : After-struct_known-in-loop-gone-1) → (
+goes_on : (c : After-next_stretch-n) → (
     (1 ≤ (turn c).loop.len) × ((turn c).loop.gone + ((turn c).loop.len + c.next_stretch-n.result.gap) ≤ (start c).args.b.period))
 goes_on c =
     let b = (start c).args.b in
@@ -24,7 +24,7 @@ goes_on c =
     let l = (turn c).loop in
     let n = c.next_stretch-n.ensures.0 in (
       some_len b.period (owns b) l.x l.len _ _ n,
-      round b.period (owns b) b.first (p.0.begins p.1) l.gone l.x l.len _ _ c.loop-gone-test.true l.inv.4 n,
+      round b.period (owns b) b.first (p.0.begins p.1) l.gone l.x l.len _ _ c.loop-gone-test.true l.invariant.4 n,
     )
 
 pub loop-gone-init : goal.loop-gone-init
@@ -78,10 +78,10 @@ loop-gone-preserved c =
       in'.2,
       in'.0,
       in'.1,
-      next_place b.period (owns b) b.first first l.gone l.x l.len _ _ few l.inv.4 n.0,
+      next_place b.period (owns b) b.first first l.gone l.x l.len _ _ few l.invariant.4 n.0,
       next_begins b.period (owns b) l.x l.len _ _ n.0,
       n.1,
-      up_more b.period (owns b) _ b.first a.lo a.hi first l.gone l.x l.len _ _ _ _ few l.inv.4 n.0 _ _ _ l.inv.7 in'.3 (omega arith)
+      up_more b.period (owns b) _ b.first a.lo a.hi first l.gone l.x l.len _ _ _ _ few l.invariant.4 n.0 _ _ _ l.invariant.7 in'.3 (omega arith)
           (omega arith),
       n.2,
     )

@@ -36,8 +36,8 @@ ends c =
     let p = (start c).requires in
     let l = (turn c).loop in
     let in' = c.loop-y-test.true in
-    ends_at a.period (omega (arith, p.0)) _ _ a.a a.len a.lo a.hi p.2 p.3 p.4 p.6 l.inv.7 l.y l.inv.0 in' c.window-x.result
-    (window_top _ _ a.len a.lo a.hi l.y c.before.before.larger.result c.window-x.result p.3 p.4 l.inv.0 in' (run_is c) l.inv.8
+    ends_at a.period (omega (arith, p.0)) _ _ a.a a.len a.lo a.hi p.2 p.3 p.4 p.6 l.invariant.7 l.y l.invariant.0 in' c.window-x.result
+    (window_top _ _ a.len a.lo a.hi l.y c.before.before.larger.result c.window-x.result p.3 p.4 l.invariant.0 in' (run_is c) l.invariant.8
     (λ h. c.window-x.ensures.0 (omega arith)) (λ h. c.window-x.ensures.1 (omega arith)))
 
 pub returns-then-len-lo : goal.returns-then-len-lo
@@ -65,15 +65,15 @@ loop-y-init c =
     )
 
 pub unkey-requires : goal.unkey-requires
-unkey-requires c = ((ends (goal.at.unkey-requires c).After-way_told-in-loop-y-1).0, omega (arith, (start (goal.at.unkey-requires c).After-way_told-in-loop-y-1).requires.2, c.loop-y-test.true))
+unkey-requires c = ((ends (goal.at.unkey-requires c).After-window-x).0, omega (arith, (start (goal.at.unkey-requires c).After-window-x).requires.2, c.loop-y-test.true))
 
 pub loop-y-preserved : goal.loop-y-preserved
 loop-y-preserved c =
-    let w = (goal.at.loop-y-preserved c).After-way_told-in-loop-y-1 in
+    let w = (goal.at.loop-y-preserved c).After-window-x in
     let a = (start w).args in
     let p = (start w).requires in
     let l = (turn w).loop in
-    let v = l.inv in
+    let v = l.invariant in
     let on : a.a + l.y + 1 ≡ a.a + (l.y + 1) = omega arith in
     let q : c.turn-q.result ≡ (a.a + (l.y + 1)) % a.period =
     c.turn-q.ensures ∙ ap (λ (x : ℕ). (x + 1) % a.period) v.6 ∙ mod-add-mod (a.a + l.y) a.period 1 ∙ ap (λ (x : ℕ). x % a.period) on in

@@ -13,11 +13,10 @@ use Rattle.waiting.proofs.arrive_all.Goals as goal
 use Rattle.waiting.proofs.arrive_all.Goals.{After-next_stretch-n, After-wait_on}
 
 -- the next stretch begins some cycles further on, within the round
-next : (c : After-next_stretch-n) → (
-    let b = c.args.b in
-    let l = c.loop-gone in
-    (l.gone + (l.len + c.next_stretch-n.result.gap) ≤ b.period) × (1 ≤ l.len) × (b.period ≤ 256)
-    )
+abbrev Goes : ℕ → ℕ → ℕ → ℕ → Type 0
+Goes P gone len gap = (gone + (len + gap) ≤ P) × (1 ≤ len) × (P ≤ 256)
+
+next : (c : After-next_stretch-n) → Goes c.args.b.period c.loop-gone.gone c.loop-gone.len c.next_stretch-n.result.gap
 next c =
     let b = c.args.b in
     let l = c.loop-gone in
@@ -28,19 +27,18 @@ next c =
     )
 
 -- what is pending for the next stretch
-means : (c : After-wait_on) → (
+means : (c : After-wait_on) → Goes c.args.b.period c.loop-gone.gone c.loop-gone.len c.next_stretch-n.result.gap → (
     let a = c.args in
     let l = c.loop-gone in
     let n = c.next_stretch-n.result in
     let on = l.gone + (l.len + n.gap) in
     (e : ℕ) → a.lo ≤ e → e ≤ a.hi → Longest (Later (a.b.period - on) (Pends a.b.period (owns a.b) (table_of a.b.period a.t.now) n.at on e)) (among c.wait_on.new.pending a.lo (e + 1))
     )
-means c =
+means c (round, some, most) =
     let a = c.args in
     let l = c.loop-gone in
     let n = c.next_stretch-n in
     let within = c.within-best.ensures in
-    let (round, some, most) = next c.before.before.before.before.before.before.before.before in
     pends_next a.b.period (owns a.b) _ l.x l.len n.result.gap n.result.at n.ensures.0 l.gone round a.lo a.hi _ _ (a.b.period - l.gone) _ _ _ _ _ _ c.requires.2
     c.least-top.ensures c.past.ensures (omega (arith, round)) l.invariant.6 within.0 within.2 c.wait_on.ensures.1
 
@@ -111,7 +109,7 @@ leave-run-requires c =
       omega (arith, least, c.requires.4, c.requires.1, most),
       l.invariant.1,
       (λ e k i j z.
-          let (low, high) = pends_small P own _ n.result.at (l.gone + (l.len + n.result.gap)) e _ k _ c.requires.5 c.requires.0.least (means (goal.at.leave-run-requires c).After-wait_on e i (omega (arith, least))) z in
+          let (low, high) = pends_small P own _ n.result.at (l.gone + (l.len + n.result.gap)) e _ k _ c.requires.5 c.requires.0.least (means (goal.at.leave-run-requires c).After-wait_on (next (goal.at.leave-run-requires c).After-next_stretch-n) e i (omega (arith, least))) z in
           (low, omega (arith, high, round, most))),
     )
 
@@ -127,7 +125,7 @@ loop-gone-preserved c =
     let l = c.loop-gone in
     let few = c.loop-gone-test.true in
     let n = c.next_stretch-n in
-    let pending = means (goal.at.loop-gone-preserved c).After-wait_on in
+    let pending = means (goal.at.loop-gone-preserved c).After-wait_on (next (goal.at.loop-gone-preserved c).After-next_stretch-n) in
     let least = c.least.ensures in
     let (round, some, most) = next (goal.at.loop-gone-preserved c).After-next_stretch-n in
     let on = l.gone + (l.len + n.result.gap) in

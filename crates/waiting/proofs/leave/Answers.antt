@@ -29,7 +29,7 @@ pub ended-requires : goal.ended-requires
 ended-requires c =
     let l = c.loop-e in
     let last = c.loop-e-test.true in
-    (omega (arith, last, c.requires.3), (λ n. let (x, y) = c.requires.5 l.e _ l.invariant.0 last (sym (more (goal.at.ended-requires c).After-way_told-in-loop-e-1) ∙ kept_some _ n) in (omega (arith, x, n), omega (arith, y, n))))
+    (omega (arith, last, c.requires.3), (λ n. let (x, y) = c.requires.5 l.e _ l.invariant.0 last (sym (more (goal.at.ended-requires c).After-larger-run) ∙ kept_some _ n) in (omega (arith, x, n), omega (arith, y, n))))
 
 pub turn-q-requires : goal.turn-q-requires
 turn-q-requires c = (c.loop-e.invariant.3, c.requires.1)
@@ -39,7 +39,7 @@ loop-e-preserved c =
     let a = c.args in
     let l = c.loop-e in
     let last = c.loop-e-test.true in
-    let run = more (goal.at.loop-e-preserved c).After-way_told-in-loop-e-1 in
+    let run = more (goal.at.loop-e-preserved c).After-larger-run in
     let pos : 0 < a.period = omega (arith, c.requires.0) in
     let is : c.turn-q.result ≡ (a.a + (l.e + 1)) % a.period =
     c.turn-q.ensures ∙ ap (λ (x : ℕ). (x + 1) % a.period) l.invariant.4 ∙ mod-add-mod (a.a + l.e) a.period 1
