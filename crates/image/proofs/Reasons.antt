@@ -18,7 +18,7 @@ use Rattle.rows.specs.Fields.{field_at, tag_at, length_at, body_at, closed_at, P
 use Rattle.nodes.specs.Nodes.{lines_of, tree_at}
 use Rattle.image.specs.Conditions.{Complete, Ending, Condition, head_cut, wrong_tag, one_more, wrong_length, body_cut, wrong_value, not_below, no_entry, no_node, too_deep, too_long, too_wide, Accepting}
 use Rattle.refusals.specs.declared.Refusal.{Refusal}
-use Rattle.refusals.specs.declared.Refusal.TheVariants.{Cut, Tag, Full, Length, Value, Forward, Unfinished, Deep, Long, Entry, Lines}
+use Rattle.refusals.specs.declared.Refusal.TheVariants.{Cut, Tag, Full, Length, Value, Forward, Unfinished, Deep, Long, Entry, Lines, Table, Register, Busy, Forbidden, Block}
 use Rattle.image.specs.declared.fields.Judgement.TheVariants.{Bad}
 use Rattle.image.specs.declared.fields.End.TheVariants.{Whole}
 use Rattle.image.specs.declared.Outline.{Outline}
@@ -59,6 +59,11 @@ module _ (s : List ℕ) where
 
   pub refused_when : (r : Refusal) (place : ℕ) → Condition s r place → judged s ≡ Refused r place
   unfolding field_of whole_of
+  refused_when Table place c = elim c [ ]
+  refused_when Register place c = elim c [ ]
+  refused_when Busy place c = elim c [ ]
+  refused_when Forbidden place c = elim c [ ]
+  refused_when Block place c = elim c [ ]
   refused_when Cut _ (head_cut k p l h) = stopped k Cut p l (simp (lt-ltb (length s - field_at s k) 3 (omega arith)))
   refused_when Tag _ (wrong_tag k p h a) = stopped k Tag p (omega arith) (simp (head k h, refused _ (tag_here s k) a))
   refused_when Full _ (one_more k p (h, a) r) = stopped k Full p (omega arith) (simp (head k h, (tag_here s k).passes a, refused _ (room_here s k) r))

@@ -31,7 +31,7 @@ window_top k w len lo hi y run x p l m n r win f g =
     rw z (g h ∙ win (y - hi) (omega arith)))
     (λ h. let z : min y hi + 1 - lo ≡ suc (y - lo) = omega arith in
     let u : y - hi ≡ 0 = omega arith in
-    rw (z, u) (f h ∙ r))
+    subst (λ (m : ℕ). x ≡ top k (y - hi) m) (sym z) (subst (λ (v : ℕ). x ≡ top k v (suc (y - lo))) (sym u) (f h ∙ r)))
 
 inside : (y hi lo j : ℕ) → lo ≤ hi → lo ≤ y → j < min y hi + 1 - lo → (d : ℕ) × (lo ≤ d) × (d ≤ hi) × (y - hi + j + d ≡ y)
 inside y hi lo j l m h =

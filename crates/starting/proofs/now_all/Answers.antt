@@ -6,22 +6,15 @@ use Rattle.bus.specs.Owning.{owns}
 use Rattle.starting.proofs.EveryNow.{up_none, up_more, up_all}
 use native.Mathlib.Omega.{arith}
 use Rattle.starting.proofs.now_all.Goals as goal
-use Rattle.starting.proofs.now_all.Goals.{After-next_stretch-n, At-loop-gone, Start}
-
--- where a turn began, and the function
-abbrev turn : After-next_stretch-n → At-loop-gone
-turn c = c.before.before.before.before.before.before.before.before
-
-abbrev start : After-next_stretch-n → Start
-start c = (turn c).before.before
+use Rattle.starting.proofs.now_all.Goals.{After-next_stretch-n}
 
 -- a turn goes on by some cycles, and not past the first
 goes_on : (c : After-next_stretch-n) → (
-    (1 ≤ (turn c).loop.len) × ((turn c).loop.gone + ((turn c).loop.len + c.next_stretch-n.result.gap) ≤ (start c).args.b.period))
+    (1 ≤ c.loop-gone.len) × (c.loop-gone.gone + (c.loop-gone.len + c.next_stretch-n.result.gap) ≤ c.args.b.period))
 goes_on c =
-    let b = (start c).args.b in
-    let p = (start c).requires in
-    let l = (turn c).loop in
+    let b = c.args.b in
+    let p = c.requires in
+    let l = c.loop-gone in
     let n = c.next_stretch-n.ensures.0 in (
       some_len b.period (owns b) l.x l.len _ _ n,
       round b.period (owns b) b.first (p.0.begins p.1) l.gone l.x l.len _ _ c.loop-gone-test.true l.invariant.4 n,
@@ -56,25 +49,25 @@ pub next_stretch-n-requires : goal.next_stretch-n-requires
 next_stretch-n-requires c = (c.requires.0, c.requires.1, c.loop-gone.invariant.8)
 
 pub overflow_add-gone : goal.overflow_add-gone
-overflow_add-gone c = omega (arith, goes_on c, (start c).requires.0.most)
+overflow_add-gone c = omega (arith, goes_on (goal.at.overflow_add-gone c).After-next_stretch-n, c.requires.0.most)
 
 pub overflow_add-gone-in-loop-gone : goal.overflow_add-gone-in-loop-gone
-overflow_add-gone-in-loop-gone c = omega (arith, goes_on c, (start c).requires.0.most)
+overflow_add-gone-in-loop-gone c = omega (arith, goes_on (goal.at.overflow_add-gone-in-loop-gone c).After-next_stretch-n, c.requires.0.most)
 
 pub loop-gone-smaller : goal.loop-gone-smaller
-loop-gone-smaller c = omega (arith, goes_on c)
+loop-gone-smaller c = omega (arith, goes_on (goal.at.loop-gone-smaller c).After-next_stretch-n)
 
 pub loop-gone-preserved : goal.loop-gone-preserved
 loop-gone-preserved c =
-    let a = (start c).args in
-    let p = (start c).requires in
+    let a = c.args in
+    let p = c.requires in
     let b = a.b in
-    let l = (turn c).loop in
+    let l = c.loop-gone in
     let few = c.loop-gone-test.true in
     let first = p.0.begins p.1 in
     let n = c.next_stretch-n.ensures in
     let in' = c.now_in.ensures in (
-      (goes_on c).1,
+      (goes_on (goal.at.loop-gone-preserved c).After-next_stretch-n).1,
       in'.2,
       in'.0,
       in'.1,

@@ -11,33 +11,23 @@ use Rattle.starting.specs.Starting.{EndsAt}
 use Rattle.starting.proofs.Nows.{window_top, top_next, ends_at, now_none, now_more, now_done}
 use native.Mathlib.Omega.{arith}
 use Rattle.starting.proofs.now_in.Goals as goal
-use Rattle.starting.proofs.now_in.Goals.{After-window-x, At-loop-y, Start}
-
--- where a turn began, and the function; the keys
-abbrev turn : After-window-x → At-loop-y
-turn c = c.before.before.before.before.before
-
-abbrev start : After-window-x → Start
-start c = (turn c).before.before.before.before.before.before.before.before.before.before
-
-abbrev keys : After-window-x → List ℕ
-keys c = c.before.before.before.before.before.before.before.before.before.before.keys_in.new.1.0
+use Rattle.starting.proofs.now_in.Goals.{After-window-x}
 
 -- what the turn knows of the largest key so far, and of the window that ends at y
-run_is : (c : After-window-x) → c.before.before.larger.result ≡ top (keys c) 0 (suc ((turn c).loop.y - (start c).args.lo))
-run_is c = top_next _ _ _ _ (turn c).loop.invariant.9 c.before.before.larger.ensures
+run_is : (c : After-window-x) → c.larger-next.result ≡ top c.keys_in.new.k 0 (suc (c.loop-y.y - c.args.lo))
+run_is c = top_next _ _ _ _ c.loop-y.invariant.9 c.larger-next.ensures
 
 ends : (c : After-window-x) → (
-    Turns c.window-x.result (turn c).loop.y
-    × ((r : ℕ) → r ≡ time_at c.window-x.result (turn c).loop.y
-    → Longest (EndsAt (start c).args.period (table_of (start c).args.period (start c).args.t.now) (start c).args.a (start c).args.lo (start c).args.hi (turn c).loop.y) (time_of r)))
+    Turns c.window-x.result c.loop-y.y
+    × ((r : ℕ) → r ≡ time_at c.window-x.result c.loop-y.y
+    → Longest (EndsAt c.args.period (table_of c.args.period c.args.t.now) c.args.a c.args.lo c.args.hi c.loop-y.y) (time_of r)))
 ends c =
-    let a = (start c).args in
-    let p = (start c).requires in
-    let l = (turn c).loop in
+    let a = c.args in
+    let p = c.requires in
+    let l = c.loop-y in
     let in' = c.loop-y-test.true in
     ends_at a.period (omega (arith, p.0)) _ _ a.a a.len a.lo a.hi p.2 p.3 p.4 p.6 l.invariant.7 l.y l.invariant.0 in' c.window-x.result
-    (window_top _ _ a.len a.lo a.hi l.y c.before.before.larger.result c.window-x.result p.3 p.4 l.invariant.0 in' (run_is c) l.invariant.8
+    (window_top _ _ a.len a.lo a.hi l.y c.larger-next.result c.window-x.result p.3 p.4 l.invariant.0 in' (run_is c) l.invariant.8
     (λ h. c.window-x.ensures.0 (omega arith)) (λ h. c.window-x.ensures.1 (omega arith)))
 
 pub returns-then-len-lo : goal.returns-then-len-lo
@@ -65,14 +55,14 @@ loop-y-init c =
     )
 
 pub unkey-requires : goal.unkey-requires
-unkey-requires c = ((ends (goal.at.unkey-requires c).After-window-x).0, omega (arith, (start (goal.at.unkey-requires c).After-window-x).requires.2, c.loop-y-test.true))
+unkey-requires c = ((ends (goal.at.unkey-requires c).After-window-x).0, omega (arith, c.requires.2, c.loop-y-test.true))
 
 pub loop-y-preserved : goal.loop-y-preserved
 loop-y-preserved c =
     let w = (goal.at.loop-y-preserved c).After-window-x in
-    let a = (start w).args in
-    let p = (start w).requires in
-    let l = (turn w).loop in
+    let a = w.args in
+    let p = w.requires in
+    let l = w.loop-y in
     let v = l.invariant in
     let on : a.a + l.y + 1 ≡ a.a + (l.y + 1) = omega arith in
     let q : c.turn-q.result ≡ (a.a + (l.y + 1)) % a.period =
@@ -87,7 +77,7 @@ loop-y-preserved c =
       q,
       v.7,
       v.8,
-      subst (λ (x : ℕ). w.larger-next.result ≡ top (keys w) 0 x) n (run_is w),
+      subst (λ (x : ℕ). w.larger-next.result ≡ top w.keys_in.new.k 0 x) n (run_is w),
       now_more a.period _ a.a a.lo a.hi l.y _ _ _ _ c.unkey.result _ (omega arith) v.6 (omega (arith, v.4, v.5, p.1)) v.10
           ((ends w).1 c.unkey.result c.unkey.ensures) c.longer_of.ensures,
     )
