@@ -70,7 +70,7 @@ fn once_block(k: Walk, x: Once, t: &mut [u64])
 }
 
 // The times after a node.
-#[cycle(arms_branch_iteration_repeat_sequence_turns_unroll_walk_wide_branch_wide_turns)]
+#[cycle(walk)]
 pub fn walk(image: &[u8], places: &[usize; 256], k: Walk, node: usize, t: &mut [u64])
     requires { Ready image.now k places.now node t.old }
     ensures { Walked k (tree_at image.now node) t.old t.new }
@@ -88,7 +88,7 @@ pub fn walk(image: &[u8], places: &[usize; 256], k: Walk, node: usize, t: &mut [
 }
 
 // The times after the children in order.
-#[cycle(arms_branch_iteration_repeat_sequence_turns_unroll_walk_wide_branch_wide_turns)]
+#[cycle(walk)]
 fn sequence(image: &[u8], places: &[usize; 256], k: Walk, node: usize, c: Children, t: &mut [u64])
     requires { ReadyAll image.now k places.now node c.place c.count t.old }
     ensures { (length t.new ≡ length t.old) × (table k t.new ≡ after_all k (child_trees image.now c.place c.count) (table k t.old)) }
@@ -104,7 +104,7 @@ fn sequence(image: &[u8], places: &[usize; 256], k: Walk, node: usize, c: Childr
 }
 
 // The times after any one of the children, joined.
-#[cycle(arms_branch_iteration_repeat_sequence_turns_unroll_walk_wide_branch_wide_turns)]
+#[cycle(walk)]
 fn branch(image: &[u8], places: &[usize; 256], k: Walk, node: usize, c: Children, t: &mut [u64])
     requires { ReadyAll image.now k places.now node c.place c.count t.old }
     ensures { (length t.new ≡ length t.old) × Branched k (child_trees image.now c.place c.count) t.old t.new }
@@ -119,7 +119,7 @@ fn branch(image: &[u8], places: &[usize; 256], k: Walk, node: usize, c: Children
 }
 
 // The same where the image has lines.
-#[cycle(arms_branch_iteration_repeat_sequence_turns_unroll_walk_wide_branch_wide_turns)]
+#[cycle(walk)]
 fn wide_branch(
     image: &[u8],
     places: &[usize; 256],
@@ -137,7 +137,7 @@ fn wide_branch(
 }
 
 // The arms one by one: each from the entry `t`, into `arm`, and joined to `out`, which is the exit then.
-#[cycle(arms_branch_iteration_repeat_sequence_turns_unroll_walk_wide_branch_wide_turns)]
+#[cycle(walk)]
 fn arms(
     image: &[u8],
     places: &[usize; 256],
@@ -166,7 +166,7 @@ fn arms(
 }
 
 // The times after a loop: the test comes first, and then the iterations, a test after each.
-#[cycle(arms_branch_iteration_repeat_sequence_turns_unroll_walk_wide_branch_wide_turns)]
+#[cycle(walk)]
 fn repeat(image: &[u8], places: &[usize; 256], k: Walk, node: usize, l: Loop, t: &mut [u64])
     requires { ReadyRepeat image.now k places.now node l (visits (tree_at image.now l.test)) t.old }
     ensures { Walked k (Tree.loop l.least l.greatest (tree_at image.now l.body) (tree_at image.now l.test)) t.old t.new }
@@ -182,7 +182,7 @@ fn repeat(image: &[u8], places: &[usize; 256], k: Walk, node: usize, l: Loop, t:
 }
 
 // The iterations where the image has lines.
-#[cycle(arms_branch_iteration_repeat_sequence_turns_unroll_walk_wide_branch_wide_turns)]
+#[cycle(walk)]
 fn wide_turns(image: &[u8], places: &[usize; 256], k: Walk, node: usize, l: Loop, t: &mut [u64])
     requires { ReadyRepeat image.now k places.now node l 0 t.old }
     ensures { Repeated k (turn_trees image.now l.body l.test) l.least l.greatest t.old t.new }
@@ -193,7 +193,7 @@ fn wide_turns(image: &[u8], places: &[usize; 256], k: Walk, node: usize, l: Loop
 }
 
 // The iterations unrolled until a cycle is found or all is done, whole cycles skipped, and the rest unrolled. The exits are joined to `out`; `old` is what is kept for the watch.
-#[cycle(arms_branch_iteration_repeat_sequence_turns_unroll_walk_wide_branch_wide_turns)]
+#[cycle(walk)]
 fn turns(
     image: &[u8],
     places: &[usize; 256],
@@ -239,7 +239,7 @@ fn turns(
 }
 
 // One iteration: the body, and the test that follows it.
-#[cycle(arms_branch_iteration_repeat_sequence_turns_unroll_walk_wide_branch_wide_turns)]
+#[cycle(walk)]
 fn iteration(
     image: &[u8],
     places: &[usize; 256],
@@ -256,7 +256,7 @@ fn iteration(
 }
 
 // `left` iterations more, as two halves; none once a cycle is found.
-#[cycle(arms_branch_iteration_repeat_sequence_turns_unroll_walk_wide_branch_wide_turns)]
+#[cycle(walk)]
 fn unroll(
     image: &[u8],
     places: &[usize; 256],
