@@ -199,7 +199,7 @@ fn larger(a: u64, b: u64) -> u64
 }
 
 // The outcome of a node entered with the offsets of s.
-#[cycle(branch_iteration_iterations_repeat_sequence_unroll_walk)]
+#[cycle(walk)]
 pub fn walk(image: &[u8], places: &[usize; 256], k: Walk, node: usize, s: Set) -> Outcome
     requires { Ready image.now k places.now node s }
     ensures { Published k.bus (tree_at image.now node) s result }
@@ -218,7 +218,7 @@ pub fn walk(image: &[u8], places: &[usize; 256], k: Walk, node: usize, s: Set) -
 }
 
 // The children in order: costs add, and each starts from the exits of the one before.
-#[cycle(branch_iteration_iterations_repeat_sequence_unroll_walk)]
+#[cycle(walk)]
 fn sequence(
     image: &[u8],
     places: &[usize; 256],
@@ -246,7 +246,7 @@ fn sequence(
 }
 
 // Any one of the children: the largest cost, and the exits joined.
-#[cycle(branch_iteration_iterations_repeat_sequence_unroll_walk)]
+#[cycle(walk)]
 fn branch(image: &[u8], places: &[usize; 256], k: Walk, node: usize, c: Children, s: Set) -> Outcome
     requires { ReadyAll image.now k places.now node c.place c.count s }
     ensures { PublishedAny k.bus (child_trees image.now c.place c.count) s result }
@@ -267,7 +267,7 @@ fn branch(image: &[u8], places: &[usize; 256], k: Walk, node: usize, c: Children
 }
 
 // A loop: the test comes first, and then the iterations, a test after each.
-#[cycle(branch_iteration_iterations_repeat_sequence_unroll_walk)]
+#[cycle(walk)]
 fn repeat(image: &[u8], places: &[usize; 256], k: Walk, node: usize, l: Loop, s: Set) -> Outcome
     requires { ReadyRepeat image.now k places.now node l (visits (tree_at image.now l.test)) s }
     ensures { Published k.bus (Tree.loop l.least l.greatest (tree_at image.now l.body) (tree_at image.now l.test)) s result }
@@ -283,7 +283,7 @@ fn repeat(image: &[u8], places: &[usize; 256], k: Walk, node: usize, l: Loop, s:
 }
 
 // The iterations: unrolled until a cycle is found or all is done, whole cycles skipped, and the rest unrolled.
-#[cycle(branch_iteration_iterations_repeat_sequence_unroll_walk)]
+#[cycle(walk)]
 fn iterations(image: &[u8], places: &[usize; 256], k: Walk, node: usize, l: Loop, s: Set) -> Outcome
     requires { ReadyRepeat image.now k places.now node l 0 s }
     ensures { Repeated k.bus (turn_trees image.now l.body l.test) l.least l.greatest s result }
@@ -322,7 +322,7 @@ fn iterations(image: &[u8], places: &[usize; 256], k: Walk, node: usize, l: Loop
 }
 
 // One iteration: the body, and the test that follows it.
-#[cycle(branch_iteration_iterations_repeat_sequence_unroll_walk)]
+#[cycle(walk)]
 fn iteration(
     image: &[u8],
     places: &[usize; 256],
@@ -345,7 +345,7 @@ fn iteration(
 }
 
 // `left` iterations more, as two halves; none once a cycle is found.
-#[cycle(branch_iteration_iterations_repeat_sequence_unroll_walk)]
+#[cycle(walk)]
 fn unroll(
     image: &[u8],
     places: &[usize; 256],
