@@ -11,8 +11,7 @@ use lib.ListN.{length}
 use lib.Seq.{length-take-le}
 use lib.Signed.{lt_z, non_neg}
 use borrow.Author.Tests.{ltb-true}
-use Rattle.libc.specs.Io.{Moved}
-use Rattle.input.specs.Reading.{full_or_open, after_read, Held}
+use Rattle.input.specs.Reading.{Moved, full_or_open, after_read, Held}
 use Rattle.input.specs.declared.Input.{Input}
 use Rattle.input.specs.declared.Input.TheVariants.{Open, Whole, Failed}
 

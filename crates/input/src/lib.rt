@@ -1,14 +1,14 @@
 // input: reading standard input until it ends, a read fails or the buffer is full (document 01, "The program `figure`").
 //
-// A read that fails is not the end of the input: `after_read` promises that the input after each answer of `read` equals `after_read`
-// (specs/Reading.antt), `read_input` that no more is read than the buffer has. Only the call `read` itself is trusted here.
+// A read that fails is not the end of the input: `after_read` promises that the input after each answer of a read equals `after_read`
+// (specs/Reading.antt), `read_input` that no more is read than the buffer has, and that those are the reader's first bytes, where it knows
+// them. What standard input gives is trusted.
 #![tactic(auto)]
 
-ghost use Rattle.std.specs.Prelude.{◌≡◌, ◌≤◌, ◌-◌};
-ghost use Rattle.libc.specs.Io.{Moved};
-ghost use Rattle.input.specs.Reading.{after_read, Held};
+ghost use Rattle.std.specs.Prelude.{◌≡◌, ◌≤◌, ◌-◌, length};
+ghost use Rattle.input.specs.Reading.{Moved, Came, after_read, Held, Filled};
 
-use libc::STDIN_FILENO;
+use std::io::Read;
 
 // How far the input is read: so many bytes of it, and more may come; all of it, or as much as the buffer holds; or a read failed.
 #[derive(Clone, Copy)]
@@ -36,13 +36,25 @@ fn after_read(done: usize, got: isize, size: usize) -> Input
     Input::Whole(there)
 }
 
+// What a read into the room answers: how many bytes came, or -1 where it failed.
+fn read_some<R: Read>(reader: &mut R, room: &mut [u8]) -> isize
+    ensures moved { Moved (length room.new) result }
+    ensures bytes { Came (R.remaining reader.old) (R.remaining reader.new) result room.new }
+{
+    match reader.read(room) {
+        Ok(n) => n as isize,
+        Err(_) => -1,
+    }
+}
+
 // Reads until the input has ended, a read has failed or the buffer is full.
-pub fn read_input(buffer: &mut [u8]) -> Input
-    ensures { Held result buffer.new }
+pub fn read_input<R: Read>(reader: &mut R, buffer: &mut [u8]) -> Input
+    ensures within { Held result buffer.new }
+    ensures bytes { Filled (R.remaining reader.old) (R.remaining reader.new) result buffer.new }
 {
     let mut done = 0;
     loop {
-        let got = libc::read(STDIN_FILENO, &mut buffer[done..]);
+        let got = read_some(reader, &mut buffer[done..]);
         let input = after_read(done, got, buffer.len());
         let Input::Open(n) = input else {
             return input;

@@ -3,52 +3,78 @@
 // tests/make-judging makes the input and the expected lines, and names each case.
 #![tactic(auto)]
 
-use image_bytes::word;
+ghost use Rattle.std.specs.Prelude.{◌≤◌, length};
+
 use image::{Verdict, judge};
-use libc::{STDIN_FILENO, STDOUT_FILENO};
+use image_bytes::word;
 use refusals::number;
+use std::io::{Read, Write};
 
 // Writes the line of one image.
-fn tell(case: u64, image: &[u8]) {
-    io::print_decimal(STDOUT_FILENO, case);
+fn tell<W: Write>(case: u64, image: &[u8], output: &mut W) {
+    put_number(case, output);
     let verdict = judge(image).verdict;
     match verdict {
-        Verdict::Accepted(_) => {
-            io::write_all(STDOUT_FILENO, b" accepted\n");
-        }
+        Verdict::Accepted(_) => put(b" accepted\n", output),
         Verdict::Refused(refusal, place) => {
-            io::write_all(STDOUT_FILENO, b" refused ");
-            io::print_decimal(STDOUT_FILENO, number(refusal) as u64);
-            io::write_all(STDOUT_FILENO, b" ");
-            io::print_decimal(STDOUT_FILENO, place as u64);
-            io::write_all(STDOUT_FILENO, b"\n");
+            put(b" refused ", output);
+            put_number(number(refusal) as u64, output);
+            put(b" ", output);
+            put_number(place as u64, output);
+            put(b"\n", output);
         }
     }
 }
 
+// A write that fails is not told: the lines are compared with those that are expected.
+fn put<W: Write>(bytes: &[u8], output: &mut W) {
+    let _ = output.write_all(bytes);
+}
+
+fn put_number<W: Write>(n: u64, output: &mut W) {
+    let _ = write!(output, "{n}");
+}
+
+// Reads until the buffer is full, the input ends or a read fails, and answers how many bytes of it were read.
+fn read_full<R: Read>(reader: &mut R, buffer: &mut [u8]) -> usize
+    ensures { result ≤ length buffer.new }
+{
+    let mut done = 0;
+    while done < buffer.len() {
+        let n = reader.read(&mut buffer[done..]).unwrap_or(0);
+        if n == 0 {
+            break;
+        }
+        done += n;
+    }
+    done
+}
+
 // Fills the slice with an image and writes its line; answers false where the input ends first.
-fn next(case: u64, image: &mut [u8]) -> bool {
-    let n = io::read_full(STDIN_FILENO, image);
-    tell(case, &image[..n]);
+fn next<R: Read, W: Write>(case: u64, image: &mut [u8], reader: &mut R, output: &mut W) -> bool {
+    let n = read_full(reader, image);
+    tell(case, &image[..n], output);
     n == image.len()
 }
 
 // Reads a length and the image that follows; answers false where the input ends first.
-fn part(case: u64) -> bool {
+fn part<R: Read, W: Write>(case: u64, reader: &mut R, output: &mut W) -> bool {
     let mut head = [0u8; 2];
-    let got = io::read_full(STDIN_FILENO, &mut head);
+    let got = read_full(reader, &mut head);
     if got < 2 {
         return false;
     }
     let length = word(&head, 0);
     let mut space = [0u8; 65536];
-    next(case, &mut space[..length])
+    next(case, &mut space[..length], reader, output)
 }
 
 // A proved loop has to end, and nothing says that the input does: it stops at 9,999 images.
-fn main() {
+fn main(rt: HostRuntime) {
+    let mut reader = rt.stdin();
+    let mut output = rt.stdout();
     let mut case = 1;
-    while case < 10000 && part(case) {
+    while case < 10000 && part(case, &mut reader, &mut output) {
         case += 1;
     }
 }

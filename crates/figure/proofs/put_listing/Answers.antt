@@ -1,0 +1,34 @@
+use mathlib.Core.Path.{sym}
+use lib.Seq.{length-take-le}
+use native.Mathlib.Omega.{arith}
+use Rattle.text.proofs.Answers.{listed_read, read_within, read_text}
+use Rattle.figure.proofs.Whole.{always_bytes}
+use Rattle.figure.proofs.put_listing.Goals as goal
+
+-- The listing is no longer than the buffer, so its part of the buffer may be written; the buffer has room, so that nothing else is answered.
+pub slice_bounds-out-end : goal.slice_bounds-out-end
+slice_bounds-out-end g c =
+    let l = c.listing-written in
+    read_within _ _ _ _ (listed_read _ _ l.new.out c.in-Bytes.k l.result l.ensures c.in-Bytes.is)
+
+pub slice_bounds-write_all-end : goal.slice_bounds-write_all-end
+slice_bounds-write_all-end g c =
+    let l = c.listing-written in
+    sym (length-take-le c.in-Bytes.k l.new.out (read_within _ _ _ _ (listed_read _ _ l.new.out c.in-Bytes.k l.result l.ensures c.in-Bytes.is)))
+
+pub returns-in-Bytes : goal.returns-in-Bytes
+returns-in-Bytes g c =
+    let l = c.listing-written in
+    rw (read_text _ _ l.new.out c.in-Bytes.k (listed_read _ _ l.new.out c.in-Bytes.k l.result l.ensures c.in-Bytes.is)) at c.write_all.ensures.bytes
+
+pub returns-in-Short : goal.returns-in-Short
+returns-in-Short g c =
+    let l = c.listing-written in
+    let e = always_bytes _ _ l.new.out l.result (omega arith) l.ensures in
+    absurd (cc)
+
+pub returns-in-NoTable : goal.returns-in-NoTable
+returns-in-NoTable g c =
+    let l = c.listing-written in
+    let e = always_bytes _ _ l.new.out l.result (omega arith) l.ensures in
+    absurd (cc)
