@@ -1,5 +1,3 @@
--- The set has just the places below n that hold a time, so its ones are counted there; it has none from n on.
-use borrow.Author.Rules.{rules}
 use mathlib.Core.Path.{◌≡◌, refl, ◌∙◌, ap}
 use mathlib.Core.Bool.{Bool, true, false, cond, not}
 use mathlib.Core.List.{List}
@@ -11,9 +9,9 @@ use Rattle.offsets.specs.declared.Set.{Set}
 use Rattle.offsets.specs.Sets.{value, members}
 use Rattle.offsets.proofs.Counts.{members_within, members_count}
 use Rattle.figures.specs.Steps.{Holding, holding}
-use Rattle.figures.proofs.exit_count.Statement.{statement}
-use Rattle.figures.proofs.exit_count.Tie as tie
+use Rattle.figures.proofs.exit_count.Goals as goal
 
+-- The set has just the places below n that hold a time, so its ones are counted there; it has none from n on.
 counted : (t : List ℕ) (n : ℕ) (r : Set) → n ≤ 256 → Holding t n r → members (value r) 256 ≡ holding t n
 unfolding sum
 counted t n r h k =
@@ -25,19 +23,5 @@ counted t n r h k =
     swap true = refl
     swap false = refl
 
-exit-set-requires : tie.Need-exit-set-requires
-exit-set-requires c κs = search rules
-
-count-requires : tie.Need-count-requires
-count-requires c κs = search rules
-
-cast-result : tie.Need-overflow-cast-result
-cast-result c = search rules
-
-returns : tie.Need-returns
-returns c =
-    let st = c.before.before in
-    c.count.ensures ∙ counted st.args.t st.args.n c.before.exit-set.result st.requires c.before.exit-set.ensures
-
-pub exit-count-spec : {M : Type 1} → statement M
-exit-count-spec = tie.close (tie.spec exit-set-requires count-requires cast-result returns)
+pub returns : goal.returns
+returns c = c.count.ensures ∙ counted c.args.t c.args.n c.exit_set.result c.requires c.exit_set.ensures
