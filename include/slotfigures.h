@@ -1,7 +1,7 @@
 /* Both figures, the exit count and the table of exit offsets of a task image, the same after a change of one block's durations, the
  * finishes of tasks that wait for tasks, and the bus arbiter as a device, from C.
  *
- * Link target/staticlib/liblinked.a (`rt staticlib linked`; x86-64 Linux) beside the C library. The functions are those of
+ * Link crates/linked/out/liblinked.a (`rt lib` in crates/linked; x86-64 Linux) beside the C library. The functions are those of
  * crates/linked/src/lib.rt, where they are proved to leave exactly what is said here, for every image, table, state and array.
  *
  * Every array is a pointer and then its number of elements. What no proof covers is the calling program's side:

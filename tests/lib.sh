@@ -10,11 +10,44 @@ need() {
   echo "missing: $1"; return 1
 }
 
-# library: target/staticlib/liblinked.a is there, built anew where a source is newer
-library() {
-  [ -f target/staticlib/liblinked.a ] && [ -z "$(find crates crates.txt -newer target/staticlib/liblinked.a -print -quit)" ] && return
-  need rt && rt staticlib linked
+figure=crates/figure/out/figure archive=crates/linked/out/liblinked.a   # what `rt ci` and `rt run`, and what `rt lib` makes; from the top
+# newest FILE: it is there, and no source is newer
+newest() { [ -f "$1" ] && [ -z "$(find crates crates.txt -name out -prune -o -type f -newer "$1" -print -quit)" ]; }
+# program: the program figure is there, proved and built anew where a source is newer
+program() { newest $figure || { need rt && (cd crates/figure && rt run <stdin >/dev/null); }; }
+# library: the library for programs in C and Rust is there, the same way
+library() { newest $archive || { need rt && (cd crates/linked && rt lib </dev/null); }; }
+
+# below NAME LIST: the crates of the file LIST that crate NAME rests on, each behind those that it uses, as rt takes them, and last the crate
+below() {
+  awk -v name="$1" '
+    function visit(it, n, k, deps) {
+      if (!(it in uses) || seen[it]++) return
+      n = split(uses[it], deps, /[ ,\t]+/)
+      for (k = 1; k <= n; k++) visit(deps[k])
+      print it
+    }
+    { sub(/#.*/, "") } split($0, half, ":") { split(half[1], word, " "); uses[word[1]] = half[2] } END { visit(name) }' "$2"
 }
+
+# sources NAME FOLDER: copies crate NAME, without what was made of it, into the repository at FOLDER
+sources() {
+  local part
+  mkdir -p "$2/crates/$1" && for part in "crates/$1"/*; do [ "${part##*/}" = out ] || cp -r "$part" "$2/crates/$1/" || return; done
+}
+
+# report NAME [FLAG..]: of the check of crate NAME what its verdict rests on: of each crate that declares C functions how many are reached, those
+# functions, and the verdict. It fails where the crate is not proved, and where the check has no such report, as that of a mere library
+report() {
+  local said
+  said=$(cd "crates/$1" && rt check --list-axioms "${@:2}" </dev/null 2>&1) && grep -q '^logic=proved .* target=' <<<"$said" || { tail -n 20 <<<"$said" >&2; return 1; }
+  grep -E '^axioms |^  [^ ]+ +reached$|^logic=proved ' <<<"$said"
+}
+# reached: the functions in a report on standard input
+reached() { sed -n 's/^  \([^ ]*\) *reached$/\1/p' | sort; }
+# none_reached: how many functions of each crate of the kit that declares any, and how many in all; and what it writes where there are none
+none_reached() { sed -n 's/^axioms \(.*\) of the [0-9]* declared$/\1/p; s/^logic=.* \(axioms=[0-9]*\) .*/\1/p'; }
+none_reached=$'libc: none reached\nos: none reached\nstd: none reached'
 
 ok=0 bad=0
 # told NAME STATUS: counts a test

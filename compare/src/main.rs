@@ -247,7 +247,7 @@ fn main() {
         ("--seconds", 140),
         ("--stop-after", u64::MAX),
     ];
-    let options = Options::new(&numbers, "target/bin/figure");
+    let options = Options::new(&numbers, "crates/figure/out/figure");
     let (seed, threads) = (options.number("--seed"), options.size("--threads").max(1));
     let begun = Instant::now();
     let mut tests = specials();
