@@ -47,6 +47,7 @@ fn register_value(register: usize, r: Registers) -> u8
     }
 }
 
+#[tactic(auto, unfolding(device::specs::Device::line_of))]
 fn line_value(r: Registers) -> u8
     ensures { result ≡ line_of r }
 {

@@ -1,5 +1,3 @@
 pub mod Rights
 pub mod Unseen
 mod Worked
-pub mod Lent
-pub mod Walking

@@ -57,6 +57,7 @@ fn count_down(r: Registers) -> Registers
 }
 
 // The registers of the bus's core after a tick.
+#[tactic(auto, unfolding(crate::specs::Device::fallen))]
 fn step(b: Slots, offset: usize, r: Registers) -> Registers
     requires { Small b offset }
     ensures { result ≡ stepped (slots_of b) offset r }

@@ -1,13 +1,9 @@
-use mathlib.Core.Path.{refl, sym, ◌∙◌}
+use mathlib.Core.Path.{sym, ◌∙◌}
 use native.Mathlib.Omega.{arith}
 use lib.ListN.{length}
-use Prim.Native.Nat.{◌-◌, ◌<◌}
-use Rattle.device.proofs.Long.{long}
+use Prim.Native.Nat.{◌<◌}
 use Rattle.device.proofs.Sweeps.{fit_more, fit_end}
 use Rattle.device.proofs.states.all_ok.Goals as goal
-
-pub loop-i-init : goal.loop-i-init
-loop-i-init c = (long c.args.s _ c.well_formed.0, omega arith, refl)
 
 pub returns-then-not-registers_ok : goal.returns-then-not-registers_ok
 returns-then-not-registers_ok c =

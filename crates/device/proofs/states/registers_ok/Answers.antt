@@ -1,10 +1,10 @@
 use mathlib.Core.Path.{◌≡◌, refl}
-use mathlib.Core.Logic.{◌⊎◌, inl, inr, ⊎_elim}
+use mathlib.Core.Logic.{⊎_elim}
 use mathlib.Core.Bool.{false}
 use native.Mathlib.Omega.{arith}
 use borrow.Author.Tests.{le-leb, lt-leb, ne_eqb}
 use lib.Dec.{leb}
-use Prim.Native.Nat.{◌≤◌, ◌<◌}
+use Prim.Native.Nat.{◌≤◌}
 use Rattle.runs.proofs.Cases.{split}
 use Rattle.device.specs.declared.Registers.{Registers}
 use Rattle.device.specs.Device.{fits, flags_fit, busy}
@@ -13,17 +13,15 @@ use Rattle.device.proofs.states.registers_ok.Goals as goal
 
 -- The code's tests are the definition's, in its order; the flags go by a match.
 -- the arms of the match: 1 or 2, and any other number
-busy_arm : (r : Registers) → ((r.flags ≡ 0) ⊎ (r.flags ≡ 4) → ⊥) → r.flags < 3 → flags_fit r ≡ leb 1 r.length
+busy_arm : (r : Registers) → 1 ≤ r.flags → r.flags ≤ 2 → flags_fit r ≡ leb 1 r.length
 unfolding flags_fit busy
-busy_arm r n h =
-    same r.flags 1 (λ e. rw e)
-    (λ k. let e : r.flags ≡ 2 = split r.flags 1 (λ m. absurd (split r.flags 0 (λ z. n (inl (omega arith))) (λ z. k (omega arith)))) (λ m. omega arith) in rw e)
+busy_arm r n h = same r.flags 1 (λ e. rw e) (λ k. let e : r.flags ≡ 2 = split r.flags 1 (λ m. absurd (k (omega arith))) (λ m. omega arith) in rw e)
 
-other_arm : (r : Registers) → ((r.flags ≡ 0) ⊎ (r.flags ≡ 4) → ⊥) → 3 ≤ r.flags → flags_fit r ≡ false
+other_arm : (r : Registers) → (r.flags ≡ 4 → ⊥) → 3 ≤ r.flags → flags_fit r ≡ false
 unfolding flags_fit busy
 other_arm r n h =
     let f = r.flags in
-    rw (ne_eqb f 0 (λ e. omega arith), ne_eqb f 4 (λ e. n (inr e)), ne_eqb f 1 (λ e. omega arith), ne_eqb f 2 (λ e. omega arith))
+    rw (ne_eqb f 0 (λ e. omega arith), ne_eqb f 4 n, ne_eqb f 1 (λ e. omega arith), ne_eqb f 2 (λ e. omega arith))
 
 pub returns-then-slot-r : goal.returns-then-slot-r
 unfolding fits
@@ -49,7 +47,7 @@ returns-in-1 c =
     rw (
       le-leb a.r.length a.slot c.if-slot-r.false,
       le-leb a.r.mask 1 c.if-r-gt1.false,
-      busy_arm a.r c.in-1.in_default-own.rest.1 c.in-1.if-flags-lt3-own.true,
+      busy_arm a.r (grind arith) (omega arith),
     ) refl
 
 pub returns-in_default : goal.returns-in_default
@@ -59,5 +57,5 @@ returns-in_default c =
     rw (
       le-leb a.r.length a.slot c.if-slot-r.false,
       le-leb a.r.mask 1 c.if-r-gt1.false,
-      other_arm a.r c.in_default.in_default-own.rest.1 c.in_default.if-flags-lt3-own.false,
+      other_arm a.r (grind arith) (omega arith),
     ) refl

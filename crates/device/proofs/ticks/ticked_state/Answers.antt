@@ -1,16 +1,12 @@
-use mathlib.Core.Path.{◌≡◌, refl, sym, ◌∙◌}
+use mathlib.Core.Path.{◌≡◌, sym, ◌∙◌}
 use native.Mathlib.Nat.{mod-lt}
 use native.Mathlib.Omega.{arith}
 use lib.ListN.{length, length-set}
-use Prim.Native.Nat.{◌+◌, ◌-◌, ◌*◌, ◌<◌}
+use Prim.Native.Nat.{◌+◌, ◌*◌, ◌<◌}
 use Rattle.device.specs.Device.{stepped_from, ticked}
 use Rattle.device.proofs.Formed.{formed_true}
-use Rattle.device.proofs.Long.{long}
 use Rattle.device.proofs.Sweeps.{swept_more, swept_all}
 use Rattle.device.proofs.ticks.ticked_state.Goals as goal
-
-pub loop-i-init : goal.loop-i-init
-loop-i-init c = (long c.args.s _ c.well_formed.0, omega arith, refl)
 
 pub step-requires : goal.step-requires
 step-requires c =
