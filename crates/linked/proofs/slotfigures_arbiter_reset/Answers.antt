@@ -1,0 +1,4 @@
+use Rattle.linked.proofs.slotfigures_arbiter_reset.Goals as goal
+
+pub returns : goal.returns
+returns c = c.call.ensures
