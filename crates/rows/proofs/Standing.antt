@@ -1,6 +1,5 @@
 -- Where the fields of an image stand, one behind the other; only the last of those that are good may have closed it.
 use mathlib.Core.Path.{◌≡◌, refl}
-use mathlib.Core.Bool.{false}
 use mathlib.Core.List.{List}
 use Prim.Native.Nat.{ℕ, zero, suc, ◌+◌, ◌≤◌}
 use native.Mathlib.Numerals.{add-one}
@@ -8,7 +7,7 @@ use native.Mathlib.Omega.{arith}
 use lib.ListN.{length}
 use borrow.Author.Count.{below_more}
 use borrow.Author.Tests.{eqb-false}
-use Rattle.rows.specs.Fields.{field_at, tag_at, length_at, closed_at, GoodField, Passed}
+use Rattle.rows.specs.Fields.{field_at, tag_at, length_at, GoodField, Passed}
 use Rattle.rows.specs.Unclosed.{Unclosed}
 use Rattle.rows.proofs.Kept.{good_tag, good_room, good_body, node_room, later_tag, first_open}
 

@@ -1,6 +1,5 @@
 use mathlib.Core.Path.{refl, sym}
-use mathlib.Core.Bool.{true}
-use Prim.Native.Nat.{◌-◌, ◌<◌}
+use Prim.Native.Nat.{◌<◌}
 use native.Mathlib.Omega.{arith}
 use Rattle.offsets.specs.Sets.{value}
 use Rattle.bus.proofs.Listing.{members_none, members_room, members_next, lowest_in, lowest_on, ahead_less, ordered_none, ordered_more, ordered_end}

@@ -1,5 +1,5 @@
 use mathlib.Core.Path.{◌≡◌, subst}
-use Prim.Native.Nat.{ℕ, ◌-◌}
+use Prim.Native.Nat.{ℕ}
 use native.Mathlib.Omega.{arith}
 use Rattle.bus.specs.Stretches.{LongestOf}
 use Rattle.bus.proofs.Listing.{longest_one, longest_more, longest_kept}

@@ -1,7 +1,7 @@
 use mathlib.Core.Bool.{true}
 use mathlib.Core.Path.{◌≡◌, sym, subst}
 use native.Mathlib.Nat.{mod-eq_of_lt, add-zero}
-use Prim.Native.Nat.{ℕ, ◌+◌, ◌-◌, ◌%◌, ◌≤◌, ◌<◌}
+use Prim.Native.Nat.{ℕ, ◌+◌, ◌%◌, ◌≤◌, ◌<◌}
 use Rattle.runs.specs.Stretches.{IsRun}
 use Rattle.runs.specs.Schedules.{owns_next}
 use Rattle.runs.proofs.SchedulesLaws.{most_le}

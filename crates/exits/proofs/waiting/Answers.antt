@@ -1,5 +1,5 @@
 use mathlib.Core.Path.{subst}
-use Prim.Native.Nat.{ℕ, ◌+◌, ◌-◌, ◌%◌, ◌≤◌}
+use Prim.Native.Nat.{ℕ, ◌+◌, ◌%◌, ◌≤◌}
 use Rattle.runs.proofs.Forward.{some_len}
 use Rattle.bus.specs.Owning.{owns}
 use Rattle.offsets.specs.Sets.{value}

@@ -1,14 +1,13 @@
 use mathlib.Core.Path.{◌≡◌, refl, ◌∙◌, ap}
-use mathlib.Core.Bool.{Bool, not, ◌||◌, or-false}
+use mathlib.Core.Bool.{Bool, ◌||◌, or-false}
 use mathlib.Core.List.{List}
-use lib.Dec.{eqb}
 use lib.ListN.{get_or}
 use lib.Pow.{pow_pos, pow_mono}
 use lib.Bits.{bit_or}
 use borrow.Author.Tests.{eq-eqb, ne_eqb}
 use native.Mathlib.Nat.{le_refl, lt_of_lt_of_le}
 use native.Mathlib.Omega.{arith}
-use Prim.Native.Nat.{ℕ, ◌+◌, ◌-◌, ◌^◌, ◌<◌}
+use Prim.Native.Nat.{ℕ, ◌+◌, ◌^◌}
 use Rattle.runs.specs.Figures.{no_time}
 use Rattle.runs.proofs.Cases.{split}
 use Rattle.offsets.specs.Sets.{value, has}
@@ -49,10 +48,10 @@ loop-o-preserved c =
     let t = c.args.t in (
       omega arith,
       elim c.if-t-o.branch [
-        then-t-o w ↦
-          let is = ap value w.out-is ∙ w.join-out.ensures ∙ ap (bit_or (value l.out)) w.single.ensures in
-          rw is (joined t l.o (value l.out) w.if-t-o.true l.invariant.1)
-      | else-t-o w ↦ rw (ap value w.out-is) (kept t l.o (value l.out) w.if-t-o.false l.invariant.1)
+        | then-t-o w ↦
+            let is = ap value w.out-is ∙ w.join-out.ensures ∙ ap (bit_or (value l.out)) w.single.ensures in
+            rw is (joined t l.o (value l.out) w.if-t-o.true l.invariant.1)
+        | else-t-o w ↦ rw (ap value w.out-is) (kept t l.o (value l.out) w.if-t-o.false l.invariant.1)
       ],
     )
 

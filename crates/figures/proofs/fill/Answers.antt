@@ -1,7 +1,6 @@
 use mathlib.Core.Path.{◌≡◌}
 use lib.ListN.{length-set}
 use native.Mathlib.Omega.{arith}
-use Prim.Native.Nat.{◌-◌}
 use Rattle.figures.proofs.Filling.{taken_more}
 use Rattle.figures.proofs.fill.Goals as goal
 

@@ -3,7 +3,7 @@ use mathlib.Core.List.{List}
 use lib.Pow.{pow_pos}
 use lib.Bits.{bit_or}
 use native.Mathlib.Omega.{arith}
-use Prim.Native.Nat.{ℕ, ◌+◌, ◌-◌, ◌^◌}
+use Prim.Native.Nat.{ℕ, ◌+◌, ◌^◌}
 use Rattle.runs.specs.Runs.{is_start}
 use Rattle.offsets.specs.Sets.{value, has}
 use Rattle.offsets.proofs.Members.{has_none}

@@ -1,7 +1,7 @@
 use mathlib.Core.Path.{◌≡◌, refl, sym}
 use lib.ListN.{get_or}
 use native.Mathlib.Omega.{arith}
-use Prim.Native.Nat.{◌+◌, ◌-◌}
+use Prim.Native.Nat.{◌+◌}
 use Rattle.graph.specs.Table.{all_below}
 use Rattle.graph.proofs.Tables.{below_more, below_not}
 use Rattle.graph.proofs.all_earlier.Goals as goal

@@ -1,7 +1,7 @@
 use native.Mathlib.Omega.{arith}
 use mathlib.Core.Path.{◌≡◌, refl}
 use lib.ListN.{length-set}
-use Prim.Native.Nat.{ℕ, ◌+◌, ◌-◌, ◌<◌}
+use Prim.Native.Nat.{◌+◌}
 use Rattle.graph.specs.Graph.{Permitted, finish}
 use Rattle.graph.specs.Table.{graph_of}
 use Rattle.graph.proofs.Schedules.{finish_most}

@@ -1,7 +1,6 @@
 use mathlib.Core.Path.{◌≡◌}
 use lib.ListN.{length}
 use Prim.Native.Nat.{◌*◌, ◌-◌, ◌≤◌}
-use Rattle.graph.specs.Graph.{finish}
 use Rattle.graph.specs.Table.{graph_of}
 use Rattle.graph.proofs.Filling.{Filled}
 use Rattle.graph.proofs.ends_of.Given as goal

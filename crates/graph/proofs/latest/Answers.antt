@@ -1,7 +1,7 @@
 use native.Mathlib.Omega.{arith}
 use mathlib.Core.Path.{◌≡◌}
 use lib.ListN.{get_or}
-use Prim.Native.Nat.{◌+◌, ◌-◌}
+use Prim.Native.Nat.{◌+◌}
 use Rattle.runs.specs.Figures.{largest}
 use Rattle.graph.proofs.Filling.{latest_more}
 use Rattle.graph.proofs.latest.Goals as goal

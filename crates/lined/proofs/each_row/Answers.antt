@@ -1,7 +1,7 @@
 use mathlib.Core.Path.{◌≡◌, ◌∙◌, refl, ap}
 use native.Mathlib.Omega.{arith}
 use native.Mathlib.Nat.{not-suc-le-zero, le_trans, suc-mul, mul-le-mul_right}
-use Prim.Native.Nat.{ℕ, ◌*◌, ◌-◌, ◌<◌}
+use Prim.Native.Nat.{ℕ, ◌*◌, ◌<◌}
 use Rattle.lined.proofs.RowLaws.{period_pos, all_rows, rows_more, row_fits}
 use Rattle.lined.proofs.each_row.Goals as goal
 

@@ -2,7 +2,6 @@ use mathlib.Core.Path.{◌≡◌}
 use lib.ListN.{length, length-set}
 use lib.Seq.{take-length}
 use native.Mathlib.Omega.{arith}
-use Prim.Native.Nat.{◌-◌}
 use Rattle.figures.proofs.Filling.{taken_more}
 use Rattle.previews.proofs.fill.Goals as goal
 

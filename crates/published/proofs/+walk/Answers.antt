@@ -13,7 +13,7 @@ use Rattle.published.proofs.Children.{child_low, visits_split, child_ready, chil
 use Rattle.published.proofs.Descents.{in_image, plain_ready, plain_done, block_ready, block_done, once_ready, once_done, sequence_ready, sequence_done, branch_ready, branch_done, repeat_ready, repeat_done, first_ready, turns_ready, turns_small}
 use Rattle.published.proofs.Loops.{one_ready, half_ready, other_ready, none_unrolls, one_cheap, one_asks, one_unrolls, both_unroll, body_ready, test_ready, turn_small, turn_published, begun_ready, seen_few, seen_ready, seen_cheap, skip_few, rest_ready, repeat_published}
 use native.Mathlib.Omega.{arith}
-use Prim.Native.Nat.{◌-◌, ◌/◌, ◌<◌}
+use Prim.Native.Nat.{◌/◌, ◌<◌}
 use Rattle.published.proofs.+walk.Goals as goal
 
 pub branch-loop-i-init : goal.branch-loop-i-init

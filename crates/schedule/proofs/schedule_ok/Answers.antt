@@ -65,8 +65,8 @@ loop-i-preserved c =
       omega arith,
       omega (arith, c.if-sum-gt256.false),
       elim c.if-owner-core.branch [
-        then-owner-core w ↦ rw (w.found-is, f) (at_pair a.image.now a.body a.len _ _ _ l.i _ _ (omega arith) l.invariant.2 (goes_found _ _ _ _ _ low good (sym e ∙ w.if-owner-core.true)))
-      | else-owner-core w ↦ rw (w.found-is, f) (at_pair a.image.now a.body a.len _ _ _ l.i _ _ (omega arith) l.invariant.2 (goes_other _ _ _ _ _ low good (λ q. w.if-owner-core.false (e ∙ q))))
+        | then-owner-core w ↦ rw (w.found-is, f) (at_pair a.image.now a.body a.len _ _ _ l.i _ _ (omega arith) l.invariant.2 (goes_found _ _ _ _ _ low good (sym e ∙ w.if-owner-core.true)))
+        | else-owner-core w ↦ rw (w.found-is, f) (at_pair a.image.now a.body a.len _ _ _ l.i _ _ (omega arith) l.invariant.2 (goes_other _ _ _ _ _ low good (λ q. w.if-owner-core.false (e ∙ q))))
       ],
     )
 

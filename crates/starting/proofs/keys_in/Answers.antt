@@ -1,6 +1,6 @@
 use borrow.Author.Count.{below_more}
 use mathlib.Core.Path.{◌≡◌, ◌∙◌, sym, ap}
-use Prim.Native.Nat.{ℕ, ◌+◌, ◌-◌, ◌%◌}
+use Prim.Native.Nat.{ℕ, ◌+◌, ◌%◌}
 use native.Mathlib.Nat.{not-suc-le-zero, mod-lt, mod-add-mod, mod-eq_of_lt, add-zero}
 use lib.ListN.{length-set}
 use lib.Seq.{get_or-set_same, get_or-set_other}

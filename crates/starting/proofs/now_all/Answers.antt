@@ -1,5 +1,5 @@
 use mathlib.Core.Path.{◌≡◌, refl, sym}
-use Prim.Native.Nat.{◌+◌, ◌-◌, ◌≤◌}
+use Prim.Native.Nat.{◌+◌, ◌≤◌}
 use Rattle.runs.proofs.Forward.{from_none, next_begins, next_place, round, some_len}
 use Rattle.runs.proofs.Nexts.{begun}
 use Rattle.bus.specs.Owning.{owns}

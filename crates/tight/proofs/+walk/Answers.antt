@@ -15,7 +15,7 @@ use Rattle.tight.proofs.Children.{child_low, child_ready, copied_ready, copied_s
 use Rattle.tight.proofs.Descents.{sized, wide_size, narrow_size, in_image, plain_ready, plain_done, block_ready, block_done, once_ready, once_done, sequence_ready, sequence_done, branch_ready, branch_done, repeat_ready, repeat_done, first_ready, turns_ready}
 use Rattle.tight.proofs.Loops.{one_ready, half_ready, other_ready, none_unrolls, one_unrolls, both_unroll, body_ready, test_ready, turn_steps, begun_ready, seen_few, seen_ready, seen_fits, seen_long, skip_few, rest_ready, ends_long, repeat_steps}
 use native.Mathlib.Omega.{arith}
-use Prim.Native.Nat.{◌-◌, ◌/◌, ◌≤◌, ◌<◌}
+use Prim.Native.Nat.{◌/◌, ◌≤◌, ◌<◌}
 use Rattle.tight.proofs.+walk.Goals as goal
 
 pub arms-size-n-requires : goal.arms-size-n-requires

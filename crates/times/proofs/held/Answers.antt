@@ -1,6 +1,5 @@
 use borrow.Author.Count.{below_more}
 use mathlib.Core.Bool.{true≢false}
-use Prim.Native.Nat.{◌-◌}
 use native.Mathlib.Nat.{not-suc-le-zero}
 use native.Mathlib.Omega.{arith}
 use Rattle.times.proofs.held.Goals as goal

@@ -1,7 +1,5 @@
 use borrow.Author.Count.{below_more}
-use mathlib.Core.Path.{◌≡◌, refl, sym}
-use mathlib.Core.Bool.{Bool, true, false, false≢true}
-use Prim.Native.Nat.{◌-◌}
+use mathlib.Core.Bool.{false≢true}
 use native.Mathlib.Nat.{not-suc-le-zero}
 use Rattle.times.proofs.Tables.{shifted_all}
 use native.Mathlib.Omega.{arith}

@@ -1,6 +1,6 @@
 use mathlib.Core.Path.{◌≡◌, refl, ◌∙◌, subst}
 use native.Mathlib.Numerals.{add-one}
-use Prim.Native.Nat.{ℕ, ◌-◌}
+use Prim.Native.Nat.{ℕ}
 use Rattle.runs.specs.Figures.{longest_of}
 use Rattle.times.specs.Arrays.{time_of, table_of}
 use Rattle.times.proofs.Tables.{time_none, longest_none, longest_more}

@@ -2,7 +2,6 @@ use mathlib.Core.Path.{◌≡◌}
 use Prim.Native.Nat.{◌+◌, ◌-◌, ◌%◌, ◌≤◌}
 use lib.ListN.{length}
 use Rattle.runs.specs.Stretches.{IsRun, Begins}
-use Rattle.runs.proofs.Forward as forward
 use Rattle.bus.specs.Stretches.{Nth}
 use Rattle.bus.specs.Owning.{owns}
 use Rattle.waiting.proofs.Everyone.{Waiting, LeftUp}

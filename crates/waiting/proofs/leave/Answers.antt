@@ -1,5 +1,5 @@
 use mathlib.Core.Path.{◌≡◌, refl, sym, ◌∙◌, ap, subst}
-use Prim.Native.Nat.{ℕ, ◌+◌, ◌-◌, ◌%◌, ◌<◌, max}
+use Prim.Native.Nat.{ℕ, ◌+◌, ◌%◌, ◌<◌, max}
 use native.Mathlib.Nat.{mod-lt, mod-add-mod}
 use lib.ListN.{length-set}
 use Rattle.waiting.specs.Waiting.{kept_time, among, LeftBy}

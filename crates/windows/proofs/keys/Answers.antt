@@ -1,6 +1,6 @@
 use borrow.Author.Count.{below_more}
 use mathlib.Core.Path.{◌∙◌, refl, sym, ap}
-use Prim.Native.Nat.{ℕ, ◌+◌, ◌-◌, ◌%◌}
+use Prim.Native.Nat.{ℕ, ◌+◌, ◌%◌}
 use native.Mathlib.Nat.{not-suc-le-zero, mod-lt, mod-add-mod, mod-eq_of_lt}
 use native.Mathlib.Omega.{arith}
 use lib.ListN.{length-set}

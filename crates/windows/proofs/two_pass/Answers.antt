@@ -1,5 +1,4 @@
 use mathlib.Core.Path.{refl, sym, ◌∙◌, ap}
-use Prim.Native.Nat.{◌-◌}
 use native.Mathlib.Nat.{not-suc-le-zero}
 use Rattle.windows.specs.Windows.{top, Windowed}
 use Rattle.windows.proofs.Tops.{top_one, turn_done, turn_rest}

@@ -3,7 +3,7 @@ use Rattle.rows.proofs.Kept.{good_body, first_fine}
 use Rattle.image.proofs.Scans.{here_first, here_good, here_closed, here_room, here_node, here_front, here_stopped, here_whole, here_five}
 use mathlib.Core.Path.{sym, ◌∙◌}
 use borrow.Author.Tests.{ne_eqb, eq-eqb}
-use Prim.Native.Nat.{◌-◌, ◌<◌}
+use Prim.Native.Nat.{◌<◌}
 use native.Mathlib.Omega.{arith}
 use lib.ListN.{length}
 use Rattle.image.proofs.fields.fields.Goals as goal
@@ -53,9 +53,9 @@ loop-at-preserved c =
     let inside : l.at < length s = omega arith in
     let read = c.byte-closed.ensures.0 in
     elim c.if-not-closed.branch [
-      then-not-closed+then-index-ge2 w ↦ rw w.places-is (here_node s l.places l.index l.at l.closed l.invariant next inside e _ read (ne_eqb _ 8 w.if-not-closed.true) w.if-index-ge2.true)
-    | then-not-closed+else-index-ge2 w ↦ rw w.places-is (here_front s l.places l.index l.at l.closed l.invariant next inside e _ read (ne_eqb _ 8 w.if-not-closed.true) w.if-index-ge2.false)
-    | else-not-closed w ↦ rw w.places-is (here_closed s l.places l.index l.at l.closed l.invariant next inside e _ read (eq-eqb _ 8 w.if-not-closed.false))
+      | then-not-closed+then-index-ge2 w ↦ rw w.places-is (here_node s l.places l.index l.at l.closed l.invariant next inside e _ read (ne_eqb _ 8 w.if-not-closed.true) w.if-index-ge2.true)
+      | then-not-closed+else-index-ge2 w ↦ rw w.places-is (here_front s l.places l.index l.at l.closed l.invariant next inside e _ read (ne_eqb _ 8 w.if-not-closed.true) w.if-index-ge2.false)
+      | else-not-closed w ↦ rw w.places-is (here_closed s l.places l.index l.at l.closed l.invariant next inside e _ read (eq-eqb _ 8 w.if-not-closed.false))
     ]
 
 pub ended-requires : goal.ended-requires

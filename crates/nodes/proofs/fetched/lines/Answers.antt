@@ -1,7 +1,7 @@
 use mathlib.Core.Path.{◌≡◌, refl, ◌∙◌, ap, ap₂}
 use native.Mathlib.Omega.{arith}
 use native.Mathlib.Numerals.{add-one}
-use Prim.Native.Nat.{ℕ, ◌+◌, ◌-◌, max}
+use Prim.Native.Nat.{ℕ, ◌+◌, max}
 use Rattle.runs.specs.Nodes.{node_lines, lines_to}
 use Rattle.nodes.specs.Nodes.{meant, node_of, node_at, lines_of}
 use Rattle.rows.proofs.Standing.{unclosed_few, unclosed_fewer}

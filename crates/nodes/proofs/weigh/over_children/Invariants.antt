@@ -1,4 +1,4 @@
-use Rattle.runs.specs.Nodes.{depth, deepest, visits_all}
+use Rattle.runs.specs.Nodes.{deepest, visits_all}
 use Rattle.nodes.specs.Nodes.{child_trees}
 use mathlib.Core.Path.{◌≡◌}
 use Prim.Native.Nat.{◌+◌, ◌-◌, ◌*◌, ◌≤◌, min, max}

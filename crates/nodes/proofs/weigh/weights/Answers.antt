@@ -1,6 +1,6 @@
 use Rattle.rows.proofs.Standing.{unclosed_few, unclosed_fewer}
 use Rattle.nodes.proofs.Levels.{table_first, table_more}
-use Prim.Native.Nat.{◌+◌, ◌-◌, ◌<◌}
+use Prim.Native.Nat.{◌+◌, ◌<◌}
 use native.Mathlib.Omega.{arith}
 use Rattle.nodes.proofs.weigh.weights.Goals as goal
 
