@@ -1,4 +1,4 @@
--- Two buses that are the same where it matters give the same tables and costs, so the same answers.
+-- Two buses that are the same where it matters give the same tables, costs and pairs, so the same answers.
 use mathlib.Core.Path.{◌≡◌, refl, ◌∙◌, ap, ap₂}
 use mathlib.Core.List.{List}
 use mathlib.Core.Option.{none, some}
@@ -12,8 +12,10 @@ use Rattle.runs.specs.Clock.{Places, offsets, with_lines}
 use Rattle.runs.specs.Nodes.{Kind, may, always, Tree, Trees, plain, bus, once, sequence, branch, loop, none as done, more}
 use Rattle.runs.specs.Runs.{is_start}
 use Rattle.runs.specs.Carried.{row, iterate, join_below, join_from, moved, keep, blocked, fetched_once, carried, carried_all, carried_any}
-use Rattle.runs.specs.Figures.{longer, later, exits, times, largest, sum, access_cost, cost, cost_all, cost_any, start_times, start_set}
+use Rattle.runs.specs.Figures.{Time, longer, later, exits, times, largest, sum, access_cost, cost, cost_all, cost_any, start_times, start_set}
+use Rattle.runs.specs.Pairs.{pairs, pairs_all, pairs_any}
 use Rattle.runs.proofs.Executions.{Valid, Valids}
+use Rattle.runs.proofs.Joins.{sum_same as sums_same}
 use Rattle.runs.proofs.LinesLaws.{lines_turn}
 
 below_same : {X : Type 0} (empty : X) (join : X → X → X) (n : ℕ) (f g : ℕ → X) → ((i : ℕ) → i < n → f i ≡ g i) → join_below empty join n f ≡ join_below empty join n g
@@ -135,6 +137,43 @@ module _ (b b' : Bus) (most : ℕ) (same : (e o : ℕ) → 1 ≤ e → e ≤ mos
     cost_any_same done v X = refl
     cost_any_same (more t ts) v X = omega (arith, cost_same t v.0 X, cost_any_same ts v.1 X)
 
+-- ---- pairs
+
+module _ (b b' : Bus) (most : ℕ) (same : (e o : ℕ) → 1 ≤ e → e ≤ most → o < b.period → b.wait e o ≡ b'.wait e o)
+    (q : Places) (inside : (p : ℕ) → p < q.size → q.offset p < b.period) where
+  steps_same : (t : Tree) → Valid most t → (T : List Time) → times b q t T ≡ times b' q t T
+  steps_same t v T = carried_same b b' most same q inside none longer later t v T
+
+  mutual
+    unfolding pairs Valid
+
+    pub pairs_same : (t : Tree) → Valid most t → (T : List Time) → pairs b q t T ≡ pairs b' q t T
+    pairs_same (plain lo hi) v T = refl
+    pairs_same (bus kind lo hi) v T = refl
+    pairs_same (once x lo hi hit) v T = refl
+    pairs_same (sequence ts) v T = pairs_all_same ts v T
+    pairs_same (branch ts) v T = pairs_any_same ts v.0 T
+    pairs_same (loop least greatest body test) v T =
+        let F : List Time → List Time = λ U. times b q test (times b q body U) in
+        let F' : List Time → List Time = λ U. times b' q test (times b' q body U) in
+        let same_step : (U : List Time) → F U ≡ F' U = λ U. steps_same test v.1 (times b q body U) ∙ ap (times b' q test) (steps_same body v.0 U) in
+        let turn : List Time → ℕ = λ U. pairs b q body U + pairs b q test (times b q body U) in
+        let turn' : List Time → ℕ = λ U. pairs b' q body U + pairs b' q test (times b' q body U) in
+        let same_turn : (U : List Time) → turn U ≡ turn' U =
+        λ U. ap₂ ◌+◌ (pairs_same body v.0 U) (pairs_same test v.1 (times b q body U) ∙ ap (pairs b' q test) (steps_same body v.0 U)) in
+        ap₂ ◌+◌ (pairs_same test v.1 T)
+        (sums_same greatest (λ i. turn (iterate F i (times b q test T))) (λ i. turn' (iterate F' i (times b' q test T)))
+        (λ i l. same_turn (iterate F i (times b q test T))
+        ∙ ap turn' (iterate_same F F' same_step i (times b q test T) ∙ ap (iterate F' i) (steps_same test v.1 T))))
+
+    pairs_all_same : (ts : Trees) → Valids most ts → (T : List Time) → pairs_all b q ts T ≡ pairs_all b' q ts T
+    pairs_all_same done v T = refl
+    pairs_all_same (more t ts) v T = ap₂ ◌+◌ (pairs_same t v.0 T) (pairs_all_same ts v.1 (times b q t T) ∙ ap (pairs_all b' q ts) (steps_same t v.0 T))
+
+    pairs_any_same : (ts : Trees) → Valids most ts → (T : List Time) → pairs_any b q ts T ≡ pairs_any b' q ts T
+    pairs_any_same done v T = refl
+    pairs_any_same (more t ts) v T = ap₂ ◌+◌ (pairs_same t v.0 T) (pairs_any_same ts v.1 T)
+
 -- ---- of trees and starts
 
 module _ (b b' : Bus) (same : SameBus b b') (x : Tree) (v : Valid b.most x) (starts : List ℕ) where
@@ -145,6 +184,14 @@ module _ (b b' : Bus) (same : SameBus b b') (x : Tree) (v : Valid b.most x) (sta
   times_same n pos =
       carried_same b b' b.most same.wait (with_lines b.period n) (lines_turn b.period pos n).offset_in none longer later x v _
       ∙ ap (λ (P : ℕ). times b' (with_lines P n) x (row (with_lines P n).size (λ p. cond (ltb p P && is_start starts p) (some 0) none))) same.period
+
+  pub work_same : (n : ℕ) → 0 < b.period
+      → pairs b (with_lines b.period n) x (start_times b (with_lines b.period n) starts)
+      ≡ pairs b' (with_lines b'.period n) x (start_times b' (with_lines b'.period n) starts)
+  unfolding start_times
+  work_same n pos =
+      pairs_same b b' b.most same.wait (with_lines b.period n) (lines_turn b.period pos n).offset_in x v _
+      ∙ ap (λ (P : ℕ). pairs b' (with_lines P n) x (row (with_lines P n).size (λ p. cond (ltb p P && is_start starts p) (some 0) none))) same.period
 
   pub published_same : cost b x (start_set b starts) ≡ cost b' x (start_set b' starts)
   unfolding start_set
