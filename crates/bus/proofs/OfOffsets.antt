@@ -1,4 +1,5 @@
 -- The bus of any offsets that a core owns: every offset, or stretches of them, which begin at the offsets of the set s and are listed.
+use mathlib.Core.Logic.{◌⊎◌, inl, inr}
 use mathlib.Core.Path.{◌≡◌, refl, sym, ◌∙◌, ap, subst}
 use mathlib.Core.Bool.{Bool, true, false, not, ◌&&◌, false≢true}
 use native.Mathlib.Nat.{mod-lt, mod-eq_of_lt, add-mod_right, not-suc-le-zero}
@@ -202,3 +203,8 @@ module _ {own rest : Set} {P : ℕ} (fit : Parted own rest P) (s : Set) (at : Be
             let z : i ≡ r = omega (arith, far.below) in
             sym e ∙ ap (begin_of v) z);
       })
+
+      -- whichever of the two `only` is
+      pub fit_either : (n : ℕ) → ((v.count ≡ 1) × (n ≡ m)) ⊎ (n ≡ 0) → Fit (made n)
+      fit_either n (inl h) = subst (λ (k : ℕ). Fit (made k)) (sym h.1) (fit_lone h.0)
+      fit_either n (inr z) = subst (λ (k : ℕ). Fit (made k)) (sym z) fit_many

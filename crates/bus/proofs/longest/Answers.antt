@@ -4,7 +4,6 @@ use native.Mathlib.Omega.{arith}
 use Rattle.bus.specs.Stretches.{LongestOf}
 use Rattle.bus.proofs.Listing.{longest_one, longest_more, longest_kept}
 use Rattle.bus.proofs.longest.Goals as goal
-use Rattle.bus.proofs.longest.Goals.{then-v-best, else-v-best}
 
 pub loop-i-init : goal.loop-i-init
 loop-i-init c = (omega arith, c.requires.0, longest_one c.args.v)
@@ -27,10 +26,7 @@ loop-i-preserved c =
     let l = c.loop-i in (
       omega arith,
       omega (arith, c.loop-i-test.true),
-      elim c.if-v-best.branch [
-        | then-v-best w ↦ rw w.best-is (longest_more v l.i l.best l.invariant.2 (omega (arith, w.if-v-best.true)))
-        | else-v-best w ↦ rw w.best-is (longest_kept v l.i l.best l.invariant.2 (omega (arith, w.if-v-best.false)))
-      ],
+      grind (arith, longest_more, longest_kept, l.invariant.2),
     )
 
 pub returns : goal.returns

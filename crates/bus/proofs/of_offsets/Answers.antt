@@ -1,8 +1,8 @@
 use mathlib.Core.Path.{refl}
 use native.Mathlib.Omega.{arith}
-use Rattle.bus.proofs.OfOffsets.{begun_of, fit_whole, fit_many, fit_lone}
+use borrow.Author.Rules.{rules}
+use Rattle.bus.proofs.OfOffsets.{begun_of, fit_whole, fit_either}
 use Rattle.bus.proofs.of_offsets.Goals as goal
-use Rattle.bus.proofs.of_offsets.Goals.{then-stretches-eq1, else-stretches-eq1}
 
 -- Every offset, several stretches or one: the bus of OfOffsets.
 pub entered-s-requires : goal.entered-s-requires
@@ -41,7 +41,4 @@ returns c =
     let low = c.lowest-lowest in
     let list = c.in_turn-stretches in
     let far = c.longest-longest in
-    elim c.if-stretches-eq1.branch [
-      | then-stretches-eq1 w ↦ rw w.only-is (fit_lone c.requires.0 begins.result begins.ensures low.result low.ensures list.result list.ensures far.result far.ensures w.if-stretches-eq1.true, refl, refl)
-      | else-stretches-eq1 w ↦ rw w.only-is (fit_many c.requires.0 begins.result begins.ensures low.result low.ensures list.result list.ensures far.result far.ensures, refl, refl)
-    ]
+    (fit_either c.requires.0 begins.result begins.ensures low.result low.ensures list.result list.ensures far.result far.ensures _ (search rules), refl, refl)

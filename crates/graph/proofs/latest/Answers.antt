@@ -5,7 +5,6 @@ use Prim.Native.Nat.{◌+◌}
 use Rattle.runs.specs.Figures.{largest}
 use Rattle.graph.proofs.Filling.{latest_more}
 use Rattle.graph.proofs.latest.Goals as goal
-use Rattle.graph.proofs.latest.Goals.{then-best-end, else-best-end}
 
 pub loop-k-init : goal.loop-k-init
 unfolding largest
@@ -23,7 +22,7 @@ loop-k-preserved c =
     let l = c.loop-k in (
       omega arith,
       latest_more (λ k. get_or a.ends.now (get_or a.table.now (a.at + k) 0) 0) l.k a.previous l.best _ l.invariant.1
-          (elim c.if-best-end.branch [ then-best-end w ↦ omega (arith, w.if-best-end.true, w.best-is) | else-best-end w ↦ omega (arith, w.if-best-end.false, w.best-is) ]),
+          (grind arith),
     )
 
 pub returns : goal.returns

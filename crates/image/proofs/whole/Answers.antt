@@ -36,7 +36,7 @@ pub returns-then-w-gt24 : goal.returns-then-w-gt24
 unfolding whole_of
 returns-then-w-gt24 c =
     let a = c.args in
-    simp (lt-ltb 24 (depth (tree_at a.image.now a.entry)) (omega (arith, c.weights-w.ensures.deep, c.if-w-gt24.true)))
+    simp (lt-ltb 24 (depth (tree_at a.image.now a.entry)) (omega (arith, c.weights-w.ensures.deep)))
 
 pub returns-then-w-gt100000 : goal.returns-then-w-gt100000
 unfolding whole_of
@@ -44,8 +44,8 @@ returns-then-w-gt100000 c =
     let a = c.args in
     let w = c.weights-w.ensures in
     simp (
-      le-ltb 24 (depth (tree_at a.image.now a.entry)) (omega (arith, w.deep, c.if-w-gt24.false)),
-      lt-ltb 100000 (visits (tree_at a.image.now a.entry)) (omega (arith, w.long, c.if-w-gt100000.true)),
+      le-ltb 24 (depth (tree_at a.image.now a.entry)) (omega (arith, w.deep)),
+      lt-ltb 100000 (visits (tree_at a.image.now a.entry)) (omega (arith, w.long)),
     )
 
 pub period_at-period-requires : goal.period_at-period-requires
@@ -77,8 +77,8 @@ returns-then-period-sets-gt1024 c =
     let x = c.power-sets.ensures ∙ ap power c.lines-lines.ensures in
     let wide : 1024 < (said s).period * power (lines_of s a.nodes) = omega (arith, rw (c.period_at-period.ensures.0, x) at c.if-period-sets-gt1024.true) in
     simp (
-      le-ltb 24 (depth (tree_at s a.entry)) (omega (arith, w.deep, c.if-w-gt24.false)),
-      le-ltb 100000 (visits (tree_at s a.entry)) (omega (arith, w.long, c.if-w-gt100000.false)),
+      le-ltb 24 (depth (tree_at s a.entry)) (omega (arith, w.deep)),
+      le-ltb 100000 (visits (tree_at s a.entry)) (omega (arith, w.long)),
       lt-ltb 1024 ((said s).period * power (lines_of s a.nodes)) wide,
     )
 
@@ -102,7 +102,7 @@ returns c =
     let starts = c.word-2.ensures.0 ∙ ap (word_at s) place in
     rw (p, starts, x, l)
     (simp (
-      le-ltb 24 (depth (tree_at s a.entry)) (omega (arith, w.deep, c.if-w-gt24.false)),
-      le-ltb 100000 (visits (tree_at s a.entry)) (omega (arith, w.long, c.if-w-gt100000.false)),
+      le-ltb 24 (depth (tree_at s a.entry)) (omega (arith, w.deep)),
+      le-ltb 100000 (visits (tree_at s a.entry)) (omega (arith, w.long)),
       le-ltb 1024 ((said s).period * power (lines_of s a.nodes)) narrow,
     ))

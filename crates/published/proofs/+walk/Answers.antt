@@ -13,6 +13,7 @@ use Rattle.published.proofs.Children.{child_low, visits_split, child_ready, chil
 use Rattle.published.proofs.Descents.{in_image, plain_ready, plain_done, block_ready, block_done, once_ready, once_done, sequence_ready, sequence_done, branch_ready, branch_done, repeat_ready, repeat_done, first_ready, turns_ready, turns_small}
 use Rattle.published.proofs.Loops.{one_ready, half_ready, other_ready, none_unrolls, one_cheap, one_asks, one_unrolls, both_unroll, body_ready, test_ready, turn_small, turn_published, begun_ready, seen_few, seen_ready, seen_cheap, skip_few, rest_ready, repeat_published}
 use native.Mathlib.Omega.{arith}
+use borrow.Author.Rules.{rules}
 use Prim.Native.Nat.{◌/◌, ◌<◌}
 use Rattle.published.proofs.+walk.Goals as goal
 
@@ -349,14 +350,14 @@ walk-returns-in-Sequence t c =
     let a = c.args in
     let e = sym c.node_at-n.ensures ∙ c.in-Sequence.is in
     let x = c.in-Sequence.c in
-    sequence_done a.image.now a.k a.places.now a.node a.s c.requires x e c.sequence.result c.sequence.ensures
+    sequence_done a.image.now a.k a.places.now a.node a.s c.requires x e _ (search rules)
 
 pub walk-returns-in-Branch : goal.walk-returns-in-Branch
 walk-returns-in-Branch t c =
     let a = c.args in
     let e = sym c.node_at-n.ensures ∙ c.in-Branch.is in
     let x = c.in-Branch.c in
-    branch_done a.image.now a.k a.places.now a.node a.s c.requires x e c.branch-image.result c.branch-image.ensures
+    branch_done a.image.now a.k a.places.now a.node a.s c.requires x e _ (search rules)
 
 pub walk-returns-in-Loop : goal.walk-returns-in-Loop
 walk-returns-in-Loop t c =

@@ -1,7 +1,8 @@
 use borrow.Author.Rules.{rules}
 use Rattle.image.specs.Judged.{field_of}
 use Rattle.rows.proofs.Kept.{later_field}
-use mathlib.Core.Path.{sym, ◌∙◌}
+use mathlib.Core.Path.{◌≡◌, sym, ◌∙◌}
+use mathlib.Core.Bool.{true}
 use Prim.Native.Nat.{◌-◌}
 use native.Mathlib.Omega.{arith}
 use lib.ListN.{length}
@@ -80,6 +81,7 @@ returns-then-not-kept c =
 pub returns-then-not-falling : goal.returns-then-not-falling
 unfolding field_of
 returns-then-not-falling c =
+    let kept : c.value_ok-kept.result ≡ true = search rules in
     rw (sym c.byte-tag.ensures.0, sym c.word-len.ensures.0)
     (simp (
       le-ltb _ _ c.if-left-lt3.false,
@@ -90,7 +92,7 @@ returns-then-not-falling c =
       sym c.value_ok-kept.ensures,
       sym c.children_ok-falling.ensures,
       sym c.entry_ok-named.ensures,
-      c.if-not-kept.false,
+      kept,
       c.if-not-falling.true,
     ))
 
