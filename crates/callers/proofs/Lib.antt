@@ -1,3 +1,4 @@
 pub mod Rights
 pub mod Unseen
 mod Worked
+pub mod Lent

@@ -1,4 +1,5 @@
 pub mod Tests
 pub mod Formed
+pub mod Long
 pub mod Sweeps
 pub mod Steps

@@ -1,6 +1,8 @@
-use mathlib.Core.Path.{sym}
+use mathlib.Core.Path.{◌≡◌, sym}
+use lib.ListN.{take}
 use lib.Seq.{length-take-le}
 use native.Mathlib.Omega.{arith}
+use Rattle.listing.specs.Listings.{listing_of}
 use Rattle.text.proofs.Answers.{listed_read, read_within, read_text}
 use Rattle.figure.proofs.Whole.{always_bytes}
 use Rattle.figure.proofs.put_listing.Goals as goal
@@ -9,17 +11,20 @@ use Rattle.figure.proofs.put_listing.Goals as goal
 pub slice_bounds-out-end : goal.slice_bounds-out-end
 slice_bounds-out-end g c =
     let l = c.listing-written in
-    read_within _ _ _ _ (listed_read _ _ l.new.out c.in-Bytes.k l.result l.ensures c.in-Bytes.is)
+    let most = read_within _ _ _ _ (listed_read _ _ l.new.out c.in-Bytes.k l.result l.ensures c.in-Bytes.is) in omega (arith, most)
 
 pub slice_bounds-write_all-end : goal.slice_bounds-write_all-end
 slice_bounds-write_all-end g c =
     let l = c.listing-written in
-    sym (length-take-le c.in-Bytes.k l.new.out (read_within _ _ _ _ (listed_read _ _ l.new.out c.in-Bytes.k l.result l.ensures c.in-Bytes.is)))
+    let most = read_within _ _ _ _ (listed_read _ _ l.new.out c.in-Bytes.k l.result l.ensures c.in-Bytes.is) in
+    sym (length-take-le _ l.new.out (omega (arith, most)))
 
 pub returns-in-Bytes : goal.returns-in-Bytes
 returns-in-Bytes g c =
     let l = c.listing-written in
-    rw (read_text _ _ l.new.out c.in-Bytes.k (listed_read _ _ l.new.out c.in-Bytes.k l.result l.ensures c.in-Bytes.is)) at c.write_all.ensures.bytes
+    let whole : take c.in-Bytes.k l.new.out ≡ listing_of c.args.image.now =
+    read_text _ _ l.new.out c.in-Bytes.k (listed_read _ _ l.new.out c.in-Bytes.k l.result l.ensures c.in-Bytes.is) in
+    rw (← whole) c.write_all.ensures.bytes
 
 pub returns-in-Short : goal.returns-in-Short
 returns-in-Short g c =
