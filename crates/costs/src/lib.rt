@@ -41,7 +41,8 @@ fn longest_wait(
     }
     // it has room: who waits stands in the gap, or in its last e - 1 cycles
     if e <= len {
-        if gap + e - 1 <= floor {
+        let most = gap + e - 1;
+        if most <= floor {
             return 0;
         }
     }

@@ -1,7 +1,7 @@
 -- Sets by what holds of their members.
 use mathlib.Core.Path.{◌≡◌, sym, ap, ◌∙◌, subst}
 use mathlib.Core.Logic.{◌⊎◌, inl, inr, ⊎_elim}
-use mathlib.Core.Bool.{true, false≢true}
+use mathlib.Core.Bool.{true, false, false≢true}
 use lib.Bits.{bit_or, or_lt}
 use lib.Pow.{pow_pos, pow_mono}
 use native.Mathlib.Nat.{add-sub_of_le, mod-add-mod, lt_of_lt_of_le}
@@ -16,11 +16,18 @@ use Rattle.exits.specs.Exits.{SetOf, Reaches, EndsFrom}
 pub set_same : (P m : ℕ) (Q R : ℕ → Type 0) → ((j : ℕ) → Q j → R j) → ((j : ℕ) → R j → Q j) → SetOf P Q m → SetOf P R m
 set_same P m Q R f g x = record { within = x.within; all = λ j r. x.all j (g j r); only = λ j t. f j (x.only j t) }
 
+-- 0 has no member
+pub zero_within : (P m : ℕ) → m ≡ 0 → m < 2 ^ P
+zero_within P m is = subst (λ (n : ℕ). n < 2 ^ P) (sym is) (pow_pos P)
+
+pub zero_has : (m j : ℕ) → m ≡ 0 → has m j ≡ false
+zero_has m j is = ap (λ (n : ℕ). has n j) is ∙ has_none j
+
 pub set_none : (P m : ℕ) (Q : ℕ → Type 0) → m ≡ 0 → ((j : ℕ) → Q j → ⊥) → SetOf P Q m
 set_none P m Q is f = record {
-  within = subst (λ (n : ℕ). n < 2 ^ P) (sym is) (pow_pos P);
+  within = zero_within P m is;
   all = λ j q. absurd (f j q);
-  only = λ j t. absurd (false≢true (sym (has_none j) ∙ sym (ap (λ (n : ℕ). has n j) is) ∙ t));
+  only = λ j t. absurd (false≢true (sym (zero_has m j is) ∙ t));
 }
 
 pub set_join : (P a b m : ℕ) (Q R : ℕ → Type 0) → m ≡ bit_or a b → SetOf P Q a → SetOf P R b → SetOf P (λ j. Q j ⊎ R j) m

@@ -77,6 +77,7 @@ fn kind_of(kind: usize) -> Kind
 }
 
 // The node whose field's tag stands at a place.
+#[tactic(auto, unfolding(crate::specs::Nodes::node_from))]
 pub fn node_at(image: &[u8], at: usize) -> Node
     requires { at ≤ length image.now }
     ensures { result ≡ node_of image.now at }

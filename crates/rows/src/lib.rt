@@ -48,6 +48,7 @@ pub fn tag_ok(index: usize, closed: bool, tag: usize) -> bool
 }
 
 // Is there room for a field of this tag, `index` fields standing before it? A 257th node has none.
+#[tactic(auto, unfolding(crate::specs::Tests::room_ok))]
 pub fn room_ok(index: usize, tag: usize) -> bool
     ensures { result ≡ room_ok index tag }
 {

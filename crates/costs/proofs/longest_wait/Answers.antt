@@ -5,24 +5,16 @@ use Rattle.offsets.specs.Sets.{value}
 use Rattle.costs.proofs.LongestWaits.{longest_past, longest_few, longest_near}
 use native.Mathlib.Omega.{arith}
 use Rattle.costs.proofs.longest_wait.Goals as goal
-use Rattle.costs.proofs.longest_wait.Goals.{then-len-e+else-before-gt0, else-len-e}
 
-pub returns-then-before-gt0 : goal.returns-then-before-gt0
-returns-then-before-gt0 c =
-    let a = c.args in
-    λ y gone n l few so.
-    longest_past a.b.period (owns a.b) (value a.s) a.e a.x a.len a.gap y a.before gone n c.requires.1 l few so a.floor _
-    (omega (arith, c.if-len-e.true)) (omega (arith, c.if-before-gt0.true)) (omega arith)
+pub overflow_sub-most : goal.overflow_sub-most
+overflow_sub-most c = omega (arith, c.requires.1)
 
-pub overflow_sub-gap : goal.overflow_sub-gap
-overflow_sub-gap c = omega (arith, c.requires.1)
-
-pub returns-then-gap-e : goal.returns-then-gap-e
-returns-then-gap-e c =
+pub returns-then-most-floor : goal.returns-then-most-floor
+returns-then-most-floor c =
     let a = c.args in
     λ y gone n l few so.
     longest_few a.b.period (owns a.b) (value a.s) a.e a.x a.len a.gap y a.before gone n c.requires.1 l few so a.floor
-    (omega (arith, c.if-e-len.true)) (omega (arith, c.if-gap-e.true, c.requires.1))
+    (omega arith) (omega (arith, c.requires.1))
 
 pub returns : goal.returns
 returns c =
@@ -31,7 +23,14 @@ returns c =
     let at = c.turn_by in
     let free = c.ahead in
     let none : a.len < a.e → ◌≡◌ {A = ℕ} a.before 0 =
-    λ h. elim c.if-len-e.branch [ then-len-e+else-before-gt0 w ↦ omega (arith, w.if-before-gt0.false) | else-len-e w ↦ omega (arith, w.if-len-e.false) ] in
+    λ h. grind arith in
     λ y gone n l few so.
     longest_near a.b.period (owns a.b) (value a.s) a.e a.x a.len a.gap y a.before gone n c.requires.1 l few so a.floor _ at.result free.result _
     (omega (arith, less.ensures)) none at.ensures.1 free.ensures (omega (arith, less.ensures, c.smaller-2.ensures))
+
+pub returns-then-before-gt0 : goal.returns-then-before-gt0
+returns-then-before-gt0 c =
+    let a = c.args in
+    λ y gone n l few so.
+    longest_past a.b.period (owns a.b) (value a.s) a.e a.x a.len a.gap y a.before gone n c.requires.1 l few so a.floor _
+    (omega arith) (omega arith) (omega arith)

@@ -1,17 +1,9 @@
 use mathlib.Core.Path.{◌∙◌, ap}
-use Prim.Native.Nat.{ℕ, ◌+◌, ◌*◌, ◌%◌, ◌^◌}
+use Prim.Native.Nat.{ℕ, ◌*◌, ◌%◌, ◌^◌}
 use Rattle.offsets.specs.Sets.{value}
-use Rattle.exits.specs.Exits.{LastIn}
-use Rattle.exits.proofs.SetOfs.{set_none}
 use Rattle.exits.proofs.Lasts.{last_in}
 use native.Mathlib.Omega.{arith}
 use Rattle.exits.proofs.at_once.Goals as goal
-
-pub returns-then-len-lo : goal.returns-then-len-lo
-returns-then-len-lo c =
-    let a = c.args in
-    set_none (a.at + a.len) (value c.empty.result) (LastIn (value a.seen) a.at a.len a.lo a.hi) c.empty.ensures
-    (λ j (d, y, k, l, h, t, q). omega (arith, c.if-len-lo.true))
 
 pub returns : goal.returns
 returns c =
@@ -22,4 +14,4 @@ returns c =
     let last = c.up_range-last in
     last_in (value a.seen) a.at a.len a.lo a.hi (value mask.result) (value inside.result) _ (value last.result) (value c.meet.result) c.requires.1 c.requires.0
     (mask.ensures ∙ ap (λ (m : ℕ). (m * 2 ^ a.at) % 2 ^ 256) row.ensures) inside.ensures
-    (omega (arith, c.if-len-lo.false)) last.ensures c.meet.ensures
+    (omega arith) last.ensures c.meet.ensures

@@ -68,20 +68,6 @@ overflow_mul-period c =
     product_fits _ _ (omega (arith, c.period_at-period.ensures.1))
     (rw (c.power-sets.ensures, c.lines-lines.ensures) (few_rows _ _ _ _ (omega arith) c.requires.0))
 
-pub returns-then-period-sets-gt1024 : goal.returns-then-period-sets-gt1024
-unfolding whole_of
-returns-then-period-sets-gt1024 c =
-    let a = c.args in
-    let s = a.image.now in
-    let w = c.weights-w.ensures in
-    let x = c.power-sets.ensures ∙ ap power c.lines-lines.ensures in
-    let wide : 1024 < (said s).period * power (lines_of s a.nodes) = omega (arith, rw (c.period_at-period.ensures.0, x) at c.if-period-sets-gt1024.true) in
-    simp (
-      le-ltb 24 (depth (tree_at s a.entry)) (omega (arith, w.deep)),
-      le-ltb 100000 (visits (tree_at s a.entry)) (omega (arith, w.long)),
-      lt-ltb 1024 ((said s).period * power (lines_of s a.nodes)) wide,
-    )
-
 pub overflow_add-word : goal.overflow_add-word
 overflow_add-word c = omega (arith, c.word.ensures.1)
 
@@ -97,7 +83,7 @@ returns c =
     let p = c.period_at-period.ensures.0 in
     let l = c.lines-lines.ensures in
     let x = c.power-sets.ensures ∙ ap power l in
-    let narrow : (said s).period * power (lines_of s a.nodes) ≤ 1024 = omega (arith, rw (p, x) at c.if-period-sets-gt1024.false) in
+    let narrow : (said s).period * power (lines_of s a.nodes) ≤ 1024 = rw (← p, ← x) (omega arith) in
     let place : 4 + c.word.result ≡ field_at s 1 + 1 = omega (arith, first_end s, c.word.ensures.0) in
     let starts = c.word-2.ensures.0 ∙ ap (word_at s) place in
     rw (p, starts, x, l)
@@ -106,3 +92,17 @@ returns c =
       le-ltb 100000 (visits (tree_at s a.entry)) (omega (arith, w.long)),
       le-ltb 1024 ((said s).period * power (lines_of s a.nodes)) narrow,
     ))
+
+pub returns-then-period-sets-gt1024 : goal.returns-then-period-sets-gt1024
+unfolding whole_of
+returns-then-period-sets-gt1024 c =
+    let a = c.args in
+    let s = a.image.now in
+    let w = c.weights-w.ensures in
+    let x = c.power-sets.ensures ∙ ap power c.lines-lines.ensures in
+    let wide : 1024 < (said s).period * power (lines_of s a.nodes) = omega (arith, rw (c.period_at-period.ensures.0, x) at c.if-period-sets-gt1024.true) in
+    simp (
+      le-ltb 24 (depth (tree_at s a.entry)) (omega (arith, w.deep)),
+      le-ltb 100000 (visits (tree_at s a.entry)) (omega (arith, w.long)),
+      lt-ltb 1024 ((said s).period * power (lines_of s a.nodes)) wide,
+    )

@@ -5,10 +5,6 @@ use mathlib.Core.Path.{sym, ◌∙◌}
 use native.Mathlib.Omega.{arith}
 use Rattle.nodes.proofs.node_at.Goals as goal
 
-pub returns-then-tag-eq5 : goal.returns-then-tag-eq5
-unfolding node_from
-returns-then-tag-eq5 c = rw (sym c.byte-tag.ensures.0 ∙ c.if-tag-eq5.true, c.word-len.ensures.0)
-
 pub returns-in-3 : goal.returns-in-3
 unfolding node_from
 returns-in-3 c = rw (sym c.byte-tag.ensures.0 ∙ c.in-3.is, c.word.ensures.0, c.word-in-3.ensures.0)
@@ -45,18 +41,6 @@ returns-in-10 c =
       c.byte-in-10-3.ensures.0,
       c.word-in-10.ensures.0,
     )
-
-pub returns-else-tag-eq5 : goal.returns-else-tag-eq5
-unfolding node_from
-returns-else-tag-eq5 c =
-    let a = c.args in
-    let tag = byte_at a.image.now a.at in
-    let b = c.byte-tag.ensures.0 in
-    let low = le-leb 5 tag (omega (arith, b)) in
-    let high = le-leb tag 6 (omega (arith, b)) in
-    let r = c.in-5-to-6.in_default-own.rest in
-    rw c.word-len.ensures.0
-    (simp (ne_eqb tag 3 (λ q. r.0.0.0.1 (b ∙ q)), ne_eqb tag 4 (λ q. r.0.0.1 (b ∙ q)), low, high, ne_eqb tag 5 (λ q. c.if-tag-eq5.false (b ∙ q))))
 
 pub returns-in_default : goal.returns-in_default
 unfolding node_from

@@ -29,30 +29,16 @@ loop-i-init c =
     let z : a.body + 1 + 2 * 0 ≡ a.body + 1 = omega arith in
     (omega arith, omega arith, rw (z, sub-zero (a.len / 2), c.byte-core.ensures.0) (goes_first (schedule_of a.image.now a.body a.len)))
 
-pub returns-then-owner-gt15 : goal.returns-then-owner-gt15
-returns-then-owner-gt15 c =
-    let l = c.loop-i in
-    let a = c.args in
-    at_pair a.image.now a.body a.len _ _ _ l.i _ false (omega arith) l.invariant.2
-    (core_above _ _ _ _ _ (omega (arith, c.if-owner-gt15.true, c.byte-owner.ensures.0)))
-
 pub returns-then-not-between : goal.returns-then-not-between
 returns-then-not-between c =
     let l = c.loop-i in
     let a = c.args in
     at_pair a.image.now a.body a.len _ _ _ l.i _ false (omega arith) l.invariant.2
-    (length_wrong _ _ _ _ _ (omega (arith, c.if-owner-gt15.false, c.byte-owner.ensures.0))
+    (length_wrong _ _ _ _ _ (omega (arith, c.byte-owner.ensures.0))
     (rw (sym c.byte-slot.ensures.0) (sym c.between.ensures ∙ c.if-not-between.true)))
 
 pub overflow_add-sum : goal.overflow_add-sum
 overflow_add-sum c = omega (arith, c.byte-slot.ensures.1, c.loop-i.invariant.1)
-
-pub returns-then-sum-gt256 : goal.returns-then-sum-gt256
-returns-then-sum-gt256 c =
-    let l = c.loop-i in
-    let a = c.args in
-    at_pair a.image.now a.body a.len _ _ _ l.i _ false (omega arith) l.invariant.2
-    (sum_above _ _ _ _ _ (omega (arith, c.if-sum-gt256.true, c.byte-slot.ensures.0)))
 
 pub loop-i-preserved : goal.loop-i-preserved
 loop-i-preserved c =
@@ -60,10 +46,10 @@ loop-i-preserved c =
     let a = c.args in
     let e = c.byte-owner.ensures.0 in
     let f = c.byte-slot.ensures.0 in
-    let low : byte_at a.image.now (a.body + 1 + 2 * l.i) ≤ 15 = omega (arith, c.if-owner-gt15.false, e) in
+    let low : byte_at a.image.now (a.body + 1 + 2 * l.i) ≤ 15 = omega (arith, e) in
     let good : within 1 128 (byte_at a.image.now (a.body + 1 + 2 * l.i + 1)) ≡ true = rw (sym f) (sym c.between.ensures ∙ c.if-not-between.false) in (
       omega arith,
-      omega (arith, c.if-sum-gt256.false),
+      omega arith,
       elim c.if-owner-core.branch [
         | then-owner-core w ↦ rw (w.found-is, f) (at_pair a.image.now a.body a.len _ _ _ l.i _ _ (omega arith) l.invariant.2 (goes_found _ _ _ _ _ low good (sym e ∙ w.if-owner-core.true)))
         | else-owner-core w ↦ rw (w.found-is, f) (at_pair a.image.now a.body a.len _ _ _ l.i _ _ (omega arith) l.invariant.2 (goes_other _ _ _ _ _ low good (λ q. w.if-owner-core.false (e ∙ q))))
@@ -75,3 +61,17 @@ returns c =
     let l = c.loop-i in
     let a = c.args in
     sym (ap (goes_on _ l.found l.sum) (turns_none a.image.now (a.body + 1) (a.len / 2) l.i (omega arith)) ∙ goes_last _ l.found l.sum l.invariant.1) ∙ l.invariant.2
+
+pub returns-then-owner-gt15 : goal.returns-then-owner-gt15
+returns-then-owner-gt15 c =
+    let l = c.loop-i in
+    let a = c.args in
+    at_pair a.image.now a.body a.len _ _ _ l.i _ false (omega arith) l.invariant.2
+    (core_above _ _ _ _ _ (omega (arith, c.byte-owner.ensures.0)))
+
+pub returns-then-sum-gt256 : goal.returns-then-sum-gt256
+returns-then-sum-gt256 c =
+    let l = c.loop-i in
+    let a = c.args in
+    at_pair a.image.now a.body a.len _ _ _ l.i _ false (omega arith) l.invariant.2
+    (sum_above _ _ _ _ _ (omega (arith, c.byte-slot.ensures.0)))

@@ -8,11 +8,6 @@ use Rattle.text.proofs.Puts.{wrote_none, wrote_both}
 use Rattle.text.proofs.put_exit.Goals as goal
 
 -- A place with no time puts nothing, which is its `exit_line`; any other puts the offset and the last item. At most 3 digits, 20 digits and 2 bytes: 25.
-pub returns-then-time-eq-NO_TIME : goal.returns-then-time-eq-NO_TIME
-returns-then-time-eq-NO_TIME c =
-    let a = c.args in
-    rw (exit_none a.offset a.time c.if-time-eq-NO_TIME.true) (wrote_none a.out.now a.at)
-
 pub put_number-end-requires : goal.put_number-end-requires
 put_number-end-requires c = omega (arith, offset_most c.args.offset c.requires.0)
 
@@ -26,5 +21,10 @@ unfolding line
 returns c =
     let a = c.args in
     let h : a.at ≤ length a.out.now = omega arith in
-    rw (exit_some a.offset a.time c.if-time-eq-NO_TIME.false)
+    rw (exit_some a.offset a.time (λ q. omega arith))
     (wrote_both (decimal a.offset) (last_item a.time) h c.put_number-end.ensures c.put_last.ensures)
+
+pub returns-then-time-eq-NO_TIME : goal.returns-then-time-eq-NO_TIME
+returns-then-time-eq-NO_TIME c =
+    let a = c.args in
+    rw (exit_none a.offset a.time (omega arith)) (wrote_none a.out.now a.at)
