@@ -35,11 +35,6 @@ bounds-places-node c =
     let j = c.judge-j in
     omega (arith, (judged_sound _ _ _ c.in-Accepted.k j.ensures c.in-Accepted.is).few)
 
-pub returns-then-byte-ne3 : goal.returns-then-byte-ne3
-returns-then-byte-ne3 c =
-    let a = c.args in
-    other_found a.image.now a.node a.lowest a.highest _ _ _ (tagged (goal.at.returns-then-byte-ne3 c).After-byte) (λ q. omega arith)
-
 pub returns-then-not-plain_ok : goal.returns-then-not-plain_ok
 returns-then-not-plain_ok c =
     let a = c.args in
@@ -57,3 +52,8 @@ returns-else-not-plain_ok c =
     let a = c.args in
     at_found a.image.now a.node a.lowest a.highest _ _ _ (tagged (goal.at.returns-else-not-plain_ok c).After-byte) (omega arith)
     (sym c.plain_ok.ensures ∙ c.if-not-plain_ok.false)
+
+pub returns-then-byte-ne3 : goal.returns-then-byte-ne3
+returns-then-byte-ne3 c =
+    let a = c.args in
+    other_found a.image.now a.node a.lowest a.highest _ _ _ (tagged (goal.at.returns-then-byte-ne3 c).After-byte) (λ q. omega arith)

@@ -7,11 +7,6 @@ use Rattle.figures.proofs.Answering.{answered_short, answered_given}
 use Rattle.figures.proofs.given.Goals as goal
 
 -- Number 10 where the table is short; else the table takes the exit times, and the totals are those of the definitions.
-pub returns-then-table-period : goal.returns-then-table-period
-returns-then-table-period c =
-    let a = c.args in
-    answered_short a.image.now a.k a.table.now (omega (arith, c.if-table-period.true))
-
 pub bus_at-requires : goal.bus_at-requires
 bus_at-requires c = c.requires.sound.ranged
 
@@ -48,5 +43,10 @@ returns c =
     let t = c.exit_times-times in
     let long : length t.result ≡ 256 = search rules in
     answered_given a.image.now a.k a.table.now t.result c.fill.new.table _ c.requires.sound.accepting.period
-    (omega (arith, c.if-table-period.false)) (omega (arith, period_most a.image.now a.k a.places.now c.requires))
+    (omega arith) (omega (arith, period_most a.image.now a.k a.places.now c.requires))
     t.ensures c.fill.ensures c.longest.ensures c.published_cost.ensures c.exit_count.ensures
+
+pub returns-then-table-period : goal.returns-then-table-period
+returns-then-table-period c =
+    let a = c.args in
+    answered_short a.image.now a.k a.table.now (omega arith)

@@ -6,16 +6,6 @@ use Rattle.graph.proofs.Reasons.{reasons}
 use Rattle.graph.proofs.Promises.{waiting}
 use Rattle.graph.proofs.finishes.Goals as goal
 
-pub returns-then-n-eq0 : goal.returns-then-n-eq0
-returns-then-n-eq0 c =
-    let s = c.args.table.now in
-    let is = size_refused s (c.size-n.ensures.bad (omega arith)) in
-    record {
-      equality = is;
-      reason = reasons s _ is;
-      waiting = waiting s _ is;
-    }
-
 pub first_refused-place-requires : goal.first_refused-place-requires
 first_refused-place-requires c = c.size-n.ensures.rows
 
@@ -45,6 +35,16 @@ returns c =
     let f = c.first_refused-place in
     let ok = all_permitted s n.result (n.ensures.good (omega arith)) f.result f.ensures (omega arith) in
     let is = ap finished c.ends_of-found.ensures ∙ sym (answer_given s n.result ok) in
+    record {
+      equality = is;
+      reason = reasons s _ is;
+      waiting = waiting s _ is;
+    }
+
+pub returns-then-n-eq0 : goal.returns-then-n-eq0
+returns-then-n-eq0 c =
+    let s = c.args.table.now in
+    let is = size_refused s (c.size-n.ensures.bad (omega arith)) in
     record {
       equality = is;
       reason = reasons s _ is;

@@ -32,12 +32,6 @@ weights-w-requires c =
     let low = entry_low a.image.now a.nodes a.entry c.requires.0 in
     (unclosed_fewer _ (a.entry + 3) (a.nodes + 2) (omega arith) (nodes_stand _ _ _ c.requires.0), λ k l. c.requires.1 k (omega arith))
 
-pub returns-then-w-gt24 : goal.returns-then-w-gt24
-unfolding whole_of
-returns-then-w-gt24 c =
-    let a = c.args in
-    simp (lt-ltb 24 (depth (tree_at a.image.now a.entry)) (omega (arith, c.weights-w.ensures.deep)))
-
 pub returns-then-w-gt100000 : goal.returns-then-w-gt100000
 unfolding whole_of
 returns-then-w-gt100000 c =
@@ -106,3 +100,9 @@ returns-then-period-sets-gt1024 c =
       le-ltb 100000 (visits (tree_at s a.entry)) (omega (arith, w.long)),
       lt-ltb 1024 ((said s).period * power (lines_of s a.nodes)) wide,
     )
+
+pub returns-then-w-gt24 : goal.returns-then-w-gt24
+unfolding whole_of
+returns-then-w-gt24 c =
+    let a = c.args in
+    simp (lt-ltb 24 (depth (tree_at a.image.now a.entry)) (omega (arith, c.weights-w.ensures.deep)))

@@ -7,9 +7,6 @@ use Rattle.iterations.proofs.skipped.Goals as goal
 pub jumps-jumps-requires : goal.jumps-jumps-requires
 jumps-jumps-requires c = omega (arith, c.requires.2.cycle_most, c.requires.1)
 
-pub overflow_mul-jumps : goal.overflow_mul-jumps
-overflow_mul-jumps c = omega (arith, product c.args.left c.args.w c.jumps-jumps.result c.requires.1 c.jumps-jumps.ensures c.requires.2)
-
 pub all_later-requires : goal.all_later-requires
 all_later-requires c = (c.requires.0, omega (arith, product c.args.left c.args.w c.jumps-jumps.result c.requires.1 c.jumps-jumps.ensures c.requires.2), c.requires.3)
 
@@ -28,3 +25,6 @@ returns c =
       size = c.all_later.ensures.0;
       skips = (c.jumps-jumps.result, record { jumps = c.jumps-jumps.ensures; done = refl; off = (refl, refl, refl, refl) }, c.all_later.ensures.1);
     }
+
+pub overflow_mul-jumps : goal.overflow_mul-jumps
+overflow_mul-jumps c = omega (arith, product c.args.left c.args.w c.jumps-jumps.result c.requires.1 c.jumps-jumps.ensures c.requires.2)

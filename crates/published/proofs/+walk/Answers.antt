@@ -294,26 +294,6 @@ walk-once_outcome-requires t c =
     let x = c.in-Once.x in
     once_ready a.image.now a.k a.places.now a.node a.s c.requires x e
 
-pub walk-enum_known-n-in-Sequence-1 : goal.walk-enum_known-n-in-Sequence-1
-walk-enum_known-n-in-Sequence-1 t c = c.in-Sequence.in-Sequence-own.keys4
-
-pub walk-sequence-requires : goal.walk-sequence-requires
-walk-sequence-requires t c =
-    let a = c.args in
-    let e = sym c.node_at-n.ensures ∙ c.in-Sequence.is in
-    let x = c.in-Sequence.c in
-    (omega (arith, c.decreases), sequence_ready a.image.now a.k a.places.now a.node a.s c.requires x e)
-
-pub walk-enum_known-n-in-Branch-1 : goal.walk-enum_known-n-in-Branch-1
-walk-enum_known-n-in-Branch-1 t c = c.in-Branch.in-Branch-own.keys5
-
-pub walk-branch-image-requires : goal.walk-branch-image-requires
-walk-branch-image-requires t c =
-    let a = c.args in
-    let e = sym c.node_at-n.ensures ∙ c.in-Branch.is in
-    let x = c.in-Branch.c in
-    (omega (arith, c.decreases), branch_ready a.image.now a.k a.places.now a.node a.s c.requires x e)
-
 pub walk-enum_known-n-in-Loop-1 : goal.walk-enum_known-n-in-Loop-1
 walk-enum_known-n-in-Loop-1 t c = c.in-Loop.in-Loop-own.keys6
 
@@ -365,3 +345,23 @@ walk-returns-in-Loop t c =
     let e = sym c.node_at-n.ensures ∙ c.in-Loop.is in
     let x = c.in-Loop.l in
     repeat_done a.image.now a.k a.places.now a.node a.s c.requires x e c.repeat.result c.repeat.ensures
+
+pub walk-enum_known-n-in-Sequence-1 : goal.walk-enum_known-n-in-Sequence-1
+walk-enum_known-n-in-Sequence-1 t c = c.in-Sequence.in-Sequence-own.keys4
+
+pub walk-sequence-requires : goal.walk-sequence-requires
+walk-sequence-requires t c =
+    let a = c.args in
+    let e = sym c.node_at-n.ensures ∙ c.in-Sequence.is in
+    let x = c.in-Sequence.c in
+    (omega (arith, c.decreases), sequence_ready a.image.now a.k a.places.now a.node a.s c.requires x e)
+
+pub walk-enum_known-n-in-Branch-1 : goal.walk-enum_known-n-in-Branch-1
+walk-enum_known-n-in-Branch-1 t c = c.in-Branch.in-Branch-own.keys5
+
+pub walk-branch-image-requires : goal.walk-branch-image-requires
+walk-branch-image-requires t c =
+    let a = c.args in
+    let e = sym c.node_at-n.ensures ∙ c.in-Branch.is in
+    let x = c.in-Branch.c in
+    (omega (arith, c.decreases), branch_ready a.image.now a.k a.places.now a.node a.s c.requires x e)
