@@ -70,7 +70,7 @@ written_wrote p n v a l f w =
 pub wrote : (p n v : ℕ) (a : Arbiter) → Wrote p a (after (Write p n v) a)
 unfolding outcome
 wrote p n v a =
-    cond_of (λ (o : Outcome). Wrote p a o.state) (usable a p && writable a.slot n v)
+    cond_of (λ (o : Outcome). Wrote p a o.state) _
     (λ t. written_wrote p n v a (usable_core a p (and_left (usable a p) _ t)) (usable_formed a p (and_left (usable a p) _ t)) (and_right (usable a p) _ t))
     (λ t. not_at_all)
 

@@ -41,8 +41,8 @@ fn longest_wait(
     }
     // it has room: who waits stands in the gap, or in its last e - 1 cycles
     if e <= len {
-        let most = gap + e - 1;
-        if most <= floor {
+        let wait = gap + e - 1;
+        if wait <= floor {
             return 0;
         }
     }

@@ -1,13 +1,15 @@
 -- An equal schedule written either way: the same period, the same longest access, accesses that may start at the same offsets, the same waits.
 use mathlib.Core.Path.{◌≡◌, refl, sym, ◌∙◌, ap, subst}
 use mathlib.Core.Bool.{Bool, true, false, false≢true}
-use borrow.Author.Tests.{lt-ltb, le-ltb, eq-eqb, ne_eqb}
+use borrow.Author.Tests.{eq-eqb, ne_eqb}
 use native.Mathlib.Nat.{mod-eq_of_lt, mod-lt, add-mod_right, add-zero, zero-add, mul-le-mul_right, not-suc-le-zero}
 use native.Mathlib.Omega.{arith}
+use mathlib.Core.List.{List, ◌∷◌}
+use lib.Dec.{eqb}
 use Prim.Native.Nat.{ℕ, zero, suc, ◌+◌, ◌-◌, ◌*◌, ◌%◌, ◌≤◌, ◌<◌}
 use Rattle.runs.specs.Bus.{SameBus}
 use Rattle.runs.specs.Slots.{Slots, first, period_of, equal_slots, HasSlot}
-use Rattle.runs.specs.Schedules.{total, owns, owns_next, turns_from, even, unequal_slots, owning}
+use Rattle.runs.specs.Schedules.{Turn, total, owns, owns_next, turns_from, even, unequal_slots, owning}
 use Rattle.runs.proofs.Cases.{split}
 use Rattle.runs.proofs.Waits.{first_one, first_same}
 use Rattle.runs.proofs.SlotsLaws.{equal_lawful, slot_in, may_in, may_before, may_after}
@@ -18,22 +20,31 @@ unfolding total turns_from
 total_even k zero len = omega arith
 total_even k (suc n) len = omega (arith, total_even (suc k) n len)
 
+-- whose an offset is: of the first slot, or of what is behind it
+in_first : (c : ℕ) (x : Turn) (xs : List Turn) (o : ℕ) → o < x.length → owns c (x ∷ xs) o ≡ eqb x.core c
+unfolding owns
+in_first c x xs o l = grind arith
+
+behind : (c : ℕ) (x : Turn) (xs : List Turn) (o : ℕ) → x.length ≤ o → owns c (x ∷ xs) o ≡ owns c xs (o - x.length)
+unfolding owns
+behind c x xs o l = grind arith
+
 owns_none : (c k n len o : ℕ) → c < k → owns c (turns_from k n len) o ≡ false
 unfolding owns turns_from
 owns_none c k zero len o h = refl
 owns_none c k (suc n) len o h =
     split len o
-    (λ l. rw (le-ltb o len l) (owns_none c (suc k) n len (o - len) (omega arith)))
-    (λ l. rw (lt-ltb o len l) (ne_eqb k c (λ e. omega arith)))
+    (λ l. behind c _ _ o l ∙ owns_none c (suc k) n len (o - len) (omega arith))
+    (λ l. in_first c _ _ o l ∙ ne_eqb k c (λ e. omega arith))
 
 owns_in : (j k n len o : ℕ) → j < n → j * len ≤ o → o < j * len + len → owns (k + j) (turns_from k n len) o ≡ true
 unfolding owns turns_from
 owns_in j k zero len o h l m = absurd (not-suc-le-zero h)
-owns_in zero k (suc n) len o h l m = rw (lt-ltb o len (omega arith)) (eq-eqb k (k + 0) (omega arith))
+owns_in zero k (suc n) len o h l m = in_first (k + 0) _ _ o (omega arith) ∙ eq-eqb k (k + 0) (omega arith)
 owns_in (suc j) k (suc n) len o h l m =
     let e : k + suc j ≡ suc k + j = omega arith in
-    rw (le-ltb o len (omega arith))
-    (subst (λ (x : ℕ). owns x (turns_from (suc k) n len) (o - len) ≡ true) (sym e) (owns_in j (suc k) n len (o - len) (omega arith) (omega arith) (omega arith)))
+    behind (k + suc j) _ _ o (omega arith)
+    ∙ subst (λ (x : ℕ). owns x (turns_from (suc k) n len) (o - len) ≡ true) (sym e) (owns_in j (suc k) n len (o - len) (omega arith) (omega arith) (omega arith))
 
 owns_before : (j k n len o : ℕ) → o < j * len → owns (k + j) (turns_from k n len) o ≡ false
 unfolding owns turns_from
@@ -42,18 +53,18 @@ owns_before zero k (suc n) len o h = let z : 1 ≤ 0 = omega arith in absurd (no
 owns_before (suc j) k (suc n) len o h =
     let e : k + suc j ≡ suc k + j = omega arith in
     split len o
-    (λ l. rw (le-ltb o len l)
-    (subst (λ (x : ℕ). owns x (turns_from (suc k) n len) (o - len) ≡ false) (sym e) (owns_before j (suc k) n len (o - len) (omega arith))))
-    (λ l. rw (lt-ltb o len l) (ne_eqb k (k + suc j) (λ z. omega arith)))
+    (λ l. behind (k + suc j) _ _ o l
+    ∙ subst (λ (x : ℕ). owns x (turns_from (suc k) n len) (o - len) ≡ false) (sym e) (owns_before j (suc k) n len (o - len) (omega arith)))
+    (λ l. in_first (k + suc j) _ _ o l ∙ ne_eqb k (k + suc j) (λ z. omega arith))
 
 owns_after : (j k n len o : ℕ) → j * len + len ≤ o → owns (k + j) (turns_from k n len) o ≡ false
 unfolding owns turns_from
 owns_after j k zero len o h = refl
-owns_after zero k (suc n) len o h = rw (le-ltb o len (omega arith)) (owns_none (k + 0) (suc k) n len (o - len) (omega arith))
+owns_after zero k (suc n) len o h = behind (k + 0) _ _ o (omega arith) ∙ owns_none (k + 0) (suc k) n len (o - len) (omega arith)
 owns_after (suc j) k (suc n) len o h =
     let e : k + suc j ≡ suc k + j = omega arith in
-    rw (le-ltb o len (omega arith))
-    (subst (λ (x : ℕ). owns x (turns_from (suc k) n len) (o - len) ≡ false) (sym e) (owns_after j (suc k) n len (o - len) (omega arith)))
+    behind (k + suc j) _ _ o (omega arith)
+    ∙ subst (λ (x : ℕ). owns x (turns_from (suc k) n len) (o - len) ≡ false) (sym e) (owns_after j (suc k) n len (o - len) (omega arith))
 
 pub bool_same : (s t : Bool) → (s ≡ true → t ≡ true) → (t ≡ true → s ≡ true) → s ≡ t
 bool_same true t f g = sym (f refl)

@@ -6,11 +6,11 @@ use Rattle.costs.proofs.LongestWaits.{longest_past, longest_few, longest_near}
 use native.Mathlib.Omega.{arith}
 use Rattle.costs.proofs.longest_wait.Goals as goal
 
-pub overflow_sub-most : goal.overflow_sub-most
-overflow_sub-most c = omega (arith, c.requires.1)
+pub overflow_sub-wait : goal.overflow_sub-wait
+overflow_sub-wait c = omega (arith, c.requires.1)
 
-pub returns-then-most-floor : goal.returns-then-most-floor
-returns-then-most-floor c =
+pub returns-then-wait-floor : goal.returns-then-wait-floor
+returns-then-wait-floor c =
     let a = c.args in
     λ y gone n l few so.
     longest_few a.b.period (owns a.b) (value a.s) a.e a.x a.len a.gap y a.before gone n c.requires.1 l few so a.floor
