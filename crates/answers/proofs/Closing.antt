@@ -12,7 +12,7 @@ use Rattle.image.specs.Judged.{judged}
 use Rattle.image.specs.Conditions.{Accepting}
 use Rattle.image.specs.Closed.{entry_field, EndsInANode}
 use Rattle.image.specs.declared.Outline.{Outline}
-use Rattle.image.specs.declared.Verdict.TheVariants.{Accepted}
+use Rattle.std.specs.Prelude.{Ok}
 use Rattle.image.proofs.Reasons.{when_accepted}
 use Rattle.image.proofs.Closing.{said_same, starts_same, tree_same, still_accepted}
 use Rattle.answers.specs.Answers.{figures_of, filled}
@@ -31,14 +31,14 @@ module _ (t u : Task) (bus : t.bus ≡ u.bus) (starts : t.starts ≡ u.starts) (
   filled_same : (P : ℕ) (table : List ℕ) → filled t P table ≡ filled u P table
   filled_same P table = rw times_same
 
-module _ (s table : List ℕ) (k : Outline) (ok : judged s ≡ Accepted k) (none : EndsInANode s k) (m : ℕ) (last-node : k.nodes ≡ suc m) where
+module _ (s table : List ℕ) (k : Outline) (ok : judged s ≡ Ok k) (none : EndsInANode s k) (m : ℕ) (last-node : k.nodes ≡ suc m) where
   abbrev e : List ℕ
   e = s ++ entry_field m
 
   accepting : Accepting s k
   accepting = when_accepted s k ok
 
-  accepted : judged e ≡ Accepted k
+  accepted : judged e ≡ Ok k
   accepted = still_accepted s k accepting none m last-node
 
   bus : said e ≡ said s

@@ -20,8 +20,8 @@ use Rattle.image.specs.Tasks.{task_of}
 use Rattle.image.specs.Judged.{judged}
 use Rattle.image.specs.Moved.{moved}
 use Rattle.image.specs.declared.Outline.{Outline}
-use Rattle.image.specs.declared.Verdict.{Verdict}
-use Rattle.image.specs.declared.Verdict.TheVariants.{Accepted, Refused}
+use Rattle.std.specs.Prelude.{Result, Ok, Err}
+use Rattle.refusals.specs.declared.Refused.{Refused}
 use Rattle.image.proofs.SameRest.{long, judged_moved, nodes_same, starts_same}
 use Rattle.image.proofs.EitherWay.{instead, same_said}
 use Rattle.rows.proofs.Kept.{slots_row}
@@ -52,7 +52,7 @@ module _ (v : Slots) (h : Ranges v) (rest table : List ℕ) where
       (nodes_same (slots_field (slots_of v)) (turns_field (evenly v h)) rest d (instead v h rest))
       (starts_same (slots_field (slots_of v)) (turns_field (evenly v h)) rest d (instead v h rest))
 
-  same : (k : Outline) → judged nine ≡ Accepted k → SameAnswers (task_of nine k) (task_of one k)
+  same : (k : Outline) → judged nine ≡ Ok k → SameAnswers (task_of nine k) (task_of one k)
   same k e = rw (tasks k) at (same_answers (task_of nine k) (said one) (accepted nine k e) (same_said v h rest))
 
   by_room : (t : Bool) (tight published exits place : ℕ)
@@ -60,16 +60,16 @@ module _ (v : Slots) (h : Ranges v) (rest table : List ℕ) where
   by_room true tight published exits place = refl
   by_room false tight published exits place = refl
 
-  answers : (w : Verdict) → judged one ≡ w → after_judging nine table (moved d w) ≡ answer_moved d (after_judging one table w)
-  answers (Refused r place) e = refl
-  answers (Accepted k) e =
+  answers : (w : Result Outline Refused) → judged one ≡ w → after_judging nine table (moved d w) ≡ answer_moved d (after_judging one table w)
+  answers (Err r) e = refl
+  answers (Ok k) e =
       let a = same k (verdicts ∙ ap (moved d) e) in
       rw (a.tights, a.costs, a.counts, long (slots_field (slots_of v)) (turns_field (evenly v h)) rest d (instead v h rest))
       (by_room (ltb (length table) k.period) _ _ _ (length one))
 
-  tables : (w : Verdict) → judged one ≡ w → table_for nine table (moved d w) ≡ table_for one table w
-  tables (Refused r place) e = refl
-  tables (Accepted k) e = rw (same k (verdicts ∙ ap (moved d) e)).table
+  tables : (w : Result Outline Refused) → judged one ≡ w → table_for nine table (moved d w) ≡ table_for one table w
+  tables (Err r) e = refl
+  tables (Ok k) e = rw (same k (verdicts ∙ ap (moved d) e)).table
 
   -- of every rest behind field 1, accepted or not, and every table
   pub either_way : EitherWay (slots_of v) rest table
@@ -89,7 +89,7 @@ split_off s l e w =
     let c : byte_at s 2 ≡ 3 = omega arith in
     rw (e, b, c) at (front 6 s l)
 
-module _ (s table : List ℕ) (k : Outline) (ok : judged s ≡ Accepted k) (tag : byte_at s 0 ≡ 1) where
+module _ (s table : List ℕ) (k : Outline) (ok : judged s ≡ Ok k) (tag : byte_at s 0 ≡ 1) where
   abbrev slots : Slots
   slots = record { cores = byte_at s 3; slot = byte_at s 4; core = byte_at s 5 }
 

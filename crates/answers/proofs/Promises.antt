@@ -2,6 +2,7 @@
 use mathlib.Core.Path.{◌≡◌, refl, ap}
 use mathlib.Core.Bool.{Bool, true, false, cond}
 use mathlib.Core.List.{List}
+use Rattle.std.specs.Prelude.{Result as Outcome, Ok, Err}
 use lib.ListN.{length}
 use lib.Dec.{ltb}
 use borrow.Author.Tests.{le-ltb}
@@ -13,22 +14,19 @@ use Rattle.runs.specs.Figures.{entry_of, tight, published, exit_count}
 use Rattle.runs.proofs.Whole.{whole_exact}
 use Rattle.image.specs.Tasks.{task_of}
 use Rattle.image.specs.Judged.{judged}
-use Rattle.refusals.specs.declared.Refusal.{Refusal}
 use Rattle.image.specs.declared.Outline.{Outline}
-use Rattle.image.specs.declared.Verdict.TheVariants.{Accepted, Refused}
 use Rattle.image.proofs.Reasons.{when_accepted}
 use Rattle.image.proofs.Sounds.{ranged_kept, accepted}
 use Rattle.answers.specs.declared.Totals.{Totals}
-use Rattle.answers.specs.declared.Answer.{Answer}
-use Rattle.answers.specs.declared.Answer.TheVariants.{Given, Refused as NotGiven}
+use Rattle.refusals.specs.declared.Refused.{Refused}
 use Rattle.answers.specs.Answers.{Result, result_of, answer, given, refused, figures_of, filled, after_judging, table_for}
 use Rattle.answers.specs.WholeRuns.{WholeRuns}
 use Rattle.answers.specs.Promise.{Equal, Demand3, Demand2}
 use Rattle.answers.proofs.Whole.{whole_runs}
 use Rattle.answers.proofs.Accesses.{by_algorithms}
 
-pub refused_equal : (s before : List ℕ) (r : Refusal) (place : ℕ) → judged s ≡ Refused r place → Equal s before (NotGiven r place) before
-refused_equal s before r place e = record { result = rw e; table = rw e }
+pub refused_equal : (s before : List ℕ) (r : Refused) → judged s ≡ Err r → Equal s before (Err r) before
+refused_equal s before r e = record { result = rw e; table = rw e }
 
 -- ---- an accepted image
 
@@ -49,19 +47,19 @@ whole false t P n place before tightest most exits after e h = record { first = 
     counted (given tight published exits) = exits
     counted (refused number place) = 0
 
-module _ (s before : List ℕ) (k : Outline) (e : judged s ≡ Accepted k) where
+module _ (s before : List ℕ) (k : Outline) (e : judged s ≡ Ok k) where
   -- with a place for each offset the answer is the figures of the task
   pub figures_given : k.period ≤ length before → answer s before ≡ figures_of (task_of s k)
   figures_given room = rw (e, le-ltb (length before) k.period room)
 
   -- of numbers and a table that the definitions give
-  totals : (tightest most exits : ℕ) (after : List ℕ) → given tightest most exits ≡ after_judging s before (Accepted k) → after ≡ table_for s before (Accepted k)
+  totals : (tightest most exits : ℕ) (after : List ℕ) → given tightest most exits ≡ after_judging s before (Ok k) → after ≡ table_for s before (Ok k)
       → Whole (task_of s k) k.period before tightest most exits after
   totals tightest most exits after g h =
       whole (ltb (length before) k.period) (task_of s k) k.period _ (length s) before tightest most exits after g h
 
   -- demand 3 of them
-  pub runs : (tightest most exits : ℕ) (after : List ℕ) → given tightest most exits ≡ after_judging s before (Accepted k) → after ≡ table_for s before (Accepted k)
+  pub runs : (tightest most exits : ℕ) (after : List ℕ) → given tightest most exits ≡ after_judging s before (Ok k) → after ≡ table_for s before (Ok k)
       → WholeRuns (task_of s k) tightest most exits after
   runs tightest most exits after g h =
       let t = totals tightest most exits after g h in
@@ -69,7 +67,7 @@ module _ (s before : List ℕ) (k : Outline) (e : judged s ≡ Accepted k) where
       (whole_runs (task_of s k) (accepted s k e) (when_accepted s k e).short _)
 
   -- and they are at most 65,535 for each of at most 100,000 visits
-  pub figures_most : (tightest most exits : ℕ) (after : List ℕ) → given tightest most exits ≡ after_judging s before (Accepted k) → after ≡ table_for s before (Accepted k)
+  pub figures_most : (tightest most exits : ℕ) (after : List ℕ) → given tightest most exits ≡ after_judging s before (Ok k) → after ≡ table_for s before (Ok k)
       → (tightest ≤ 6553500000) × (most ≤ 6553500000)
   figures_most tightest most exits after g h =
       let ok = accepted s k e in
@@ -81,16 +79,16 @@ module _ (s before : List ℕ) (k : Outline) (e : judged s ≡ Accepted k) where
 
 -- ---- demands 3 and 2, from the equality alone
 
-module _ (s before : List ℕ) (r : Answer) (after : List ℕ) (q : Equal s before r after) where
+module _ (s before : List ℕ) (r : Outcome Totals Refused) (after : List ℕ) (q : Equal s before r after) where
   -- an accepted image with a place for each offset is given figures
-  numbers : (k : Outline) → judged s ≡ Accepted k → k.period ≤ length before
-      → (f : Totals) × (r ≡ Given f) × (given f.tight f.published f.exits ≡ after_judging s before (Accepted k))
+  numbers : (k : Outline) → judged s ≡ Ok k → k.period ≤ length before
+      → (f : Totals) × (r ≡ Ok f) × (given f.tight f.published f.exits ≡ after_judging s before (Ok k))
   numbers k e room = by_answer r refl (rw e at q.result)
     where
-      by_answer : (x : Answer) → r ≡ x → result_of x ≡ after_judging s before (Accepted k)
-          → (f : Totals) × (r ≡ Given f) × (given f.tight f.published f.exits ≡ after_judging s before (Accepted k))
-      by_answer (Given f) g h = (f, g, h)
-      by_answer (NotGiven x place) g h =
+      by_answer : (x : Outcome Totals Refused) → r ≡ x → result_of x ≡ after_judging s before (Ok k)
+          → (f : Totals) × (r ≡ Ok f) × (given f.tight f.published f.exits ≡ after_judging s before (Ok k))
+      by_answer (Ok f) g h = (f, g, h)
+      by_answer (Err x) g h =
           absurd (let w = rw (le-ltb (length before) k.period room) at h in let z : ◌≡◌ {A = ℕ} 0 1 = cc in omega arith)
 
   pub demand3 : Demand3 s before r after

@@ -1,6 +1,6 @@
 -- The answer and the lent table, as definitions over the image's bytes and the table at entry (document 01, "Both figures" and
 -- "When no figure is given"). Definitions only.
-use Rattle.std.specs.Prelude.{cond, List, ◌++◌, length, get_or, drop, ltb, ℕ}
+use Rattle.std.specs.Prelude.{cond, List, ◌++◌, length, get_or, drop, ltb, ℕ, Result as Outcome, Ok, Err}
 use Rattle.std.proofs.Math.Option.{none}
 use Rattle.runs.specs.Runs.{Task}
 use Rattle.runs.specs.Carried.{row}
@@ -9,19 +9,18 @@ use Rattle.image.specs.Tasks.{task_of}
 use Rattle.image.specs.Judged.{judged}
 use Rattle.refusals.specs.Refusals.{number_of}
 use Rattle.refusals.specs.declared.Refusal.TheVariants.{Table}
-use Rattle.image.specs.declared.Verdict.{Verdict}
-use Rattle.image.specs.declared.Verdict.TheVariants.{Accepted, Refused}
-use Rattle.answers.specs.declared.Answer.{Answer}
-use Rattle.answers.specs.declared.Answer.TheVariants.{Given, Refused as NotGiven}
+use Rattle.refusals.specs.declared.Refused.{Refused}
+use Rattle.image.specs.declared.Outline.{Outline}
+use Rattle.answers.specs.declared.Totals.{Totals}
 
 -- the answer in the document's terms: "the tight figure, the published figure and the count of exit offsets", or a number and a place
 pub data Result : Type 0 where
   given : (tight published exits : ℕ) → Result
   refused : (number place : ℕ) → Result
 
-abbrev pub result_of : Answer → Result
-result_of (Given f) = given f.tight f.published f.exits
-result_of (NotGiven r place) = refused (number_of r) place
+abbrev pub result_of : Outcome Totals Refused → Result
+result_of (Ok f) = given f.tight f.published f.exits
+result_of (Err e) = refused (number_of e.refusal) e.place
 
 -- of a task with figures
 abbrev pub figures_of : Task → Result
@@ -33,18 +32,18 @@ abbrev pub filled : Task → ℕ → List ℕ → List ℕ
 filled t P table = row P (λ o. entry_of (get_or (exit_times t) o none)) ++ drop P table
 
 -- 10: "fewer than P places lent", "judged last", its place "the image's length"
-abbrev pub after_judging : List ℕ → List ℕ → Verdict → Result
-after_judging s table (Refused r place) = refused (number_of r) place
-after_judging s table (Accepted k) = cond (ltb (length table) k.period) (refused (number_of Table) (length s)) (figures_of (task_of s k))
+abbrev pub after_judging : List ℕ → List ℕ → Outcome Outline Refused → Result
+after_judging s table (Err e) = refused (number_of e.refusal) e.place
+after_judging s table (Ok k) = cond (ltb (length table) k.period) (refused (number_of Table) (length s)) (figures_of (task_of s k))
 
 -- the answer for any bytes and any table
 abbrev pub answer : List ℕ → List ℕ → Result
 answer s table = after_judging s table (judged s)
 
 -- the table at exit: "The table keeps its contents" where no figure is given
-abbrev pub table_for : List ℕ → List ℕ → Verdict → List ℕ
-table_for s table (Refused r place) = table
-table_for s table (Accepted k) = cond (ltb (length table) k.period) table (filled (task_of s k) k.period table)
+abbrev pub table_for : List ℕ → List ℕ → Outcome Outline Refused → List ℕ
+table_for s table (Err e) = table
+table_for s table (Ok k) = cond (ltb (length table) k.period) table (filled (task_of s k) k.period table)
 
 abbrev pub table_after : List ℕ → List ℕ → List ℕ
 table_after s table = table_for s table (judged s)

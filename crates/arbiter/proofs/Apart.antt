@@ -11,7 +11,7 @@ use Rattle.runs.proofs.Cases.{split, either}
 use Rattle.device.specs.declared.Arbiter.{Arbiter}
 use Rattle.arbiter.specs.declared.Outcome.{Outcome}
 use Rattle.device.specs.declared.Registers.{Registers}
-use Rattle.arbiter.specs.declared.Reply.TheVariants.{Value}
+use Rattle.std.specs.Prelude.{Some, Ok}
 use Rattle.device.specs.Device.{sized, formed, usable, clear, registers_of, stepped, ticked, writable, busy, cleared, with_registers, register_at, line_of}
 use Rattle.arbiter.specs.declared.Call.{Call}
 use Rattle.arbiter.specs.declared.Call.TheVariants.{Read, Line, Write, Tick, Reset}
@@ -138,11 +138,11 @@ apart p a cs ds e =
 pub read_same : (p n : ℕ) (a b : Arbiter) → Same p a b → answer (Read p n) a ≡ answer (Read p n) b
 unfolding outcome
 read_same p n a b s =
-    cond_both (λ (x y : Outcome). x.reply ≡ y.reply) (ap (λ (t : Bool). t && ltb n 3) (usable_same s)) (ap (λ (r : Registers). Value (register_at n r)) s.registers_same) refl
+    cond_both (λ (x y : Outcome). x.reply ≡ y.reply) (ap (λ (t : Bool). t && ltb n 3) (usable_same s)) (ap (λ (r : Registers). Ok (Some (register_at n r))) s.registers_same) refl
 
 pub line_same : (p : ℕ) (a b : Arbiter) → Same p a b → answer (Line p) a ≡ answer (Line p) b
 unfolding outcome
-line_same p a b s = cond_both (λ (x y : Outcome). x.reply ≡ y.reply) (usable_same s) (ap (λ (r : Registers). Value (line_of r)) s.registers_same) refl
+line_same p a b s = cond_both (λ (x y : Outcome). x.reply ≡ y.reply) (usable_same s) (ap (λ (r : Registers). Ok (Some (line_of r))) s.registers_same) refl
 
 written_same_reply : (p n v : ℕ) (a b : Arbiter) → Same p a b → (written p n v a).reply ≡ (written p n v b).reply
 unfolding written

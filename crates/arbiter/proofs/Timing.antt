@@ -21,12 +21,11 @@ use Rattle.refusals.specs.declared.Refusal.TheVariants.{Register, Busy}
 use Rattle.device.specs.declared.Arbiter.{Arbiter}
 use Rattle.arbiter.specs.declared.Outcome.{Outcome}
 use Rattle.device.specs.declared.Registers.{Registers}
-use Rattle.arbiter.specs.declared.Reply.{Reply}
-use Rattle.arbiter.specs.declared.Reply.TheVariants.{Accepted, Refused}
+use Rattle.std.specs.Prelude.{None, Ok}
 use Rattle.device.specs.Device.{sized, formed, usable, clear, registers_of, slots_of_core, starts_now, count_down, stepped, ticked, with_registers, busy, writable, cleared}
 use Rattle.arbiter.specs.declared.Call.{Call}
 use Rattle.arbiter.specs.declared.Call.TheVariants.{Read, Line, Write, Tick, Reset}
-use Rattle.arbiter.specs.Calls.{outcome, after, answer, after_all, written, refuse, leave}
+use Rattle.arbiter.specs.Calls.{Reply, refused_for, outcome, after, answer, after_all, written, refuse, leave}
 use Rattle.arbiter.specs.Sequences.{Reached, fresh, next, resets, NoReset, none, more, writes_length, NoLength, one_if_tick, ticks, Since, DoneOnTime, AsTheClock}
 use Rattle.device.proofs.Tests.{and_left, and_right, and_both, cond_of, same}
 use Rattle.device.proofs.Formed.{formed_true, usable_core}
@@ -107,7 +106,7 @@ module _ (v : Slots) (ok : HasSlot v) (e : ℕ) (pos : 1 ≤ e) (le : e ≤ v.sl
       subst (λ (r' : Registers). Next n r') (sym (stepped_runs v ((o + n) % period_of v) r f)) (run_next n r (omega arith) m k)
 
 -- ---- the write that is accepted
-never : {r : Reply} {f : Refusal} {n : ℕ} → r ≡ Refused f n → r ≡ Accepted → ⊥
+never : {r : Reply} {f : Refusal} → r ≡ refused_for f → r ≡ Ok None → ⊥
 never x y = let z : ◌≡◌ {A = ℕ} 0 1 = cc in omega arith
 
 pub record Taken (p e : ℕ) (a : Arbiter) : Type 0 where
@@ -122,7 +121,7 @@ judged p e a t = cond t (written p 0 e a) (refuse Register a)
 abbrev let_through : ℕ → ℕ → Arbiter → Bool → Outcome
 let_through p e a t = cond t (refuse Busy a) (leave (with_registers a p (record { length = e; flags = 1; mask = (registers_of a p).mask })))
 
-taken : (p e : ℕ) (a : Arbiter) → answer (Write p 0 e) a ≡ Accepted → Taken p e a
+taken : (p e : ℕ) (a : Arbiter) → answer (Write p 0 e) a ≡ Ok None → Taken p e a
 unfolding outcome written writable
 taken p e a x =
     either (usable a p && writable a.slot 0 e)
@@ -332,7 +331,7 @@ module _ (a : Arbiter) (p e : ℕ) (s₀ : Sane a) (t : Taken p e a) where
   }
 
 -- W7: "In states reached by calls from a reset, a length written at offset o is done after wait + length ticks and no sooner, if no reset comes between."
-pub on_time : {a : Arbiter} → Reached a → (p e : ℕ) → answer (Write p 0 e) a ≡ Accepted → DoneOnTime a p e
+pub on_time : {a : Arbiter} → Reached a → (p e : ℕ) → answer (Write p 0 e) a ≡ Ok None → DoneOnTime a p e
 on_time {a} r p e x = timed a p e (reached_sane r) (taken p e a x)
 
 -- ---- the clock of the arbiter is the clock of runs
@@ -351,7 +350,7 @@ clocked_all a (c ∷ cs) (more e qs) n s x =
     subst (λ (m : ℕ). Clocked a m (after_all cs (after c s))) (omega arith) (clocked_all a cs qs (n + one_if_tick c) (after c s) (clocked_after a n s c e x))
 
 -- an access of a run from the arbiter's offset takes as many cycles as the device takes ticks
-pub as_the_clock : {a : Arbiter} → Reached a → (p e : ℕ) → answer (Write p 0 e) a ≡ Accepted → AsTheClock a p e
+pub as_the_clock : {a : Arbiter} → Reached a → (p e : ℕ) → answer (Write p 0 e) a ≡ Ok None → AsTheClock a p e
 unfolding equal_slots
 as_the_clock {a} re p e x =
     let sn = reached_sane re in

@@ -1,27 +1,34 @@
 -- Calls to the arbiter, and what each answers and leaves (document 02, "The arbiter as a device"). Definitions only.
-use Rattle.std.specs.Prelude.{cond, ◌&&◌, List, [], ◌∷◌, ltb, eqb, ℕ}
+use Rattle.std.specs.Prelude.{cond, ◌&&◌, List, [], ◌∷◌, ltb, eqb, ℕ, Option, Some, None, Result, Ok, Err}
 use Rattle.refusals.specs.Refusals.{number_of}
 use Rattle.refusals.specs.declared.Refusal.{Refusal}
 use Rattle.refusals.specs.declared.Refusal.TheVariants.{Register, Busy}
+use Rattle.refusals.specs.declared.Refused.{Refused}
 use Rattle.device.specs.Device.{sized, formed, usable, registers_of, with_registers, register_at, line_of, writable, busy, cleared, ticked}
 use Rattle.device.specs.declared.Arbiter.{Arbiter}
 use Rattle.arbiter.specs.declared.Call.{Call}
 use Rattle.arbiter.specs.declared.Call.TheVariants.{Read, Line, Write, Tick, Reset}
 use Rattle.arbiter.specs.declared.Outcome.{Outcome}
-use Rattle.arbiter.specs.declared.Reply.{Reply}
-use Rattle.arbiter.specs.declared.Reply.TheVariants.{Accepted, Value, Refused}
 
--- "Both have place 0 and leave the state unchanged."
+-- the answer to a call: the value read, `None` where nothing is, or the refusal
+abbrev pub Reply : Type 0
+Reply = Result (Option ℕ) Refused
+
+-- "Both have place 0 .."
+abbrev pub refused_for : Refusal → Reply
+refused_for r = Err (record { refusal = r; place = 0 })
+
+-- ".. and leave the state unchanged."
 abbrev pub refuse : Refusal → Arbiter → Outcome
-refuse r a = record { state = a; reply = Refused r 0 }
+refuse r a = record { state = a; reply = refused_for r }
 
 -- a value is read, and the state stays
 abbrev pub tell : ℕ → Arbiter → Outcome
-tell v a = record { state = a; reply = Value v }
+tell v a = record { state = a; reply = Ok (Some v) }
 
 -- the call leaves another state
 abbrev pub leave : Arbiter → Outcome
-leave a = record { state = a; reply = Accepted }
+leave a = record { state = a; reply = Ok None }
 
 -- A write that 15 does not refuse: a length is refused with 16 while waiting or running, and else "clears done and sets waiting".
 unfoldable pub written : ℕ → ℕ → ℕ → Arbiter → Outcome
@@ -53,9 +60,9 @@ pub data Told : Type 0 where
 
 -- each case of an answer, so told
 abbrev pub told : Reply → Told
-told Accepted = done 0
-told (Value v) = done v
-told (Refused r place) = refused (number_of r) place
+told (Ok None) = done 0
+told (Ok (Some v)) = done v
+told (Err e) = refused (number_of e.refusal) e.place
 
 -- the state after calls, the first of the list first
 unfoldable pub after_all : List Call → Arbiter → Arbiter

@@ -1,21 +1,24 @@
 // Each kind of call, with the state by value: the outcome is the state after it and the answer.
 ghost use Rattle.std.specs.Prelude.{◌≡◌, ◌<◌};
-ghost use Rattle.device.specs.Device.{register_at, line_of, writable, busy};
+ghost use Rattle.device.specs.Device.{register_at, line_of, writable};
 ghost use Rattle.arbiter.specs.declared.Call.TheVariants.{Read, Line, Write, Tick, Reset};
 ghost use Rattle.arbiter.specs.Calls.{outcome, written, tell, leave};
 
-use crate::{Call, Outcome, Reply};
+use crate::{Call, Outcome};
 use device::states::{core_ok, registers_at, state_ok, with_registers};
 use device::ticks::ticked_state;
-use device::{Arbiter, Registers};
-use refusals::Refusal;
+use device::{Arbiter, DONE, Registers, WAITING};
+use refusals::{Refusal, Refused};
 
 pub fn refuse(r: Refusal, s: Arbiter) -> Outcome
     ensures { result ≡ Rattle.arbiter.specs.Calls.refuse r s }
 {
     Outcome {
         state: s,
-        reply: Reply::Refused(r, 0),
+        reply: Err(Refused {
+            refusal: r,
+            place: 0,
+        }),
     }
 }
 
@@ -24,7 +27,7 @@ fn accept(s: Arbiter) -> Outcome
 {
     Outcome {
         state: s,
-        reply: Reply::Accepted,
+        reply: Ok(None),
     }
 }
 
@@ -33,10 +36,11 @@ fn tell_value(value: u8, s: Arbiter) -> Outcome
 {
     Outcome {
         state: s,
-        reply: Reply::Value(value),
+        reply: Ok(Some(value)),
     }
 }
 
+#[tactic(auto, unfolding(device::specs::Device::register_at))]
 fn register_value(register: usize, r: Registers) -> u8
     ensures { result ≡ register_at register r }
 {
@@ -51,40 +55,23 @@ fn register_value(register: usize, r: Registers) -> u8
 fn line_value(r: Registers) -> u8
     ensures { result ≡ line_of r }
 {
-    if r.flags == 4 {
-        if r.mask == 1 {
-            return 1;
-        }
-    }
-    0
+    u8::from(r.flags == DONE && r.mask == 1)
 }
 
 // May the value be written to the register?
+#[tactic(auto, unfolding(device::specs::Device::writable))]
 fn value_ok(slot: usize, register: usize, value: usize) -> bool
     ensures { result ≡ writable slot register value }
 {
     match register {
-        0 => {
-            if value < 1 {
-                return false;
-            }
-            value <= slot
-        },
+        0 => (1..=slot).contains(&value),
         2 => value <= 1,
         _ => false,
     }
 }
 
-fn is_busy(r: Registers) -> bool
-    ensures { result ≡ busy r }
-{
-    if r.flags == 1 {
-        return true;
-    }
-    r.flags == 2
-}
-
 // A write that 15 does not refuse.
+#[tactic(auto, unfolding(crate::specs::Calls::written))]
 fn store(s: Arbiter, core: usize, register: usize, value: u8) -> Outcome
     requires { core < 16 }
     ensures { result ≡ written core register value s }
@@ -93,35 +80,29 @@ fn store(s: Arbiter, core: usize, register: usize, value: u8) -> Outcome
     if register == 0 {
         let waiting = Registers {
             length: value,
-            flags: 1,
-            mask: r.mask,
+            flags: WAITING,
+            ..r
         };
         let next = with_registers(s, core, waiting);
-        if is_busy(r) {
+        if r.is_busy() {
             return refuse(Refusal::Busy, s);
         }
         return accept(next);
     }
-    let masked = Registers {
-        length: r.length,
-        flags: r.flags,
-        mask: value,
-    };
-    accept(with_registers(s, core, masked))
+    accept(with_registers(s, core, Registers { mask: value, ..r }))
 }
 
+#[tactic(auto, using(device::proofs::Formed::usable_lt), unfolding(crate::specs::Calls::outcome))]
 fn on_read(s: Arbiter, core: usize, register: usize) -> Outcome
     ensures { result ≡ outcome (Read core register) s }
 {
-    if !core_ok(s, core) {
-        return refuse(Refusal::Register, s);
-    }
-    if 3 <= register {
+    if !core_ok(s, core) || 3 <= register {
         return refuse(Refusal::Register, s);
     }
     tell_value(register_value(register, registers_at(s, core)), s)
 }
 
+#[tactic(auto, using(device::proofs::Formed::usable_lt), unfolding(crate::specs::Calls::outcome))]
 fn on_line(s: Arbiter, core: usize) -> Outcome
     ensures { result ≡ outcome (Line core) s }
 {
@@ -131,18 +112,17 @@ fn on_line(s: Arbiter, core: usize) -> Outcome
     tell_value(line_value(registers_at(s, core)), s)
 }
 
+#[tactic(auto, using(device::proofs::Formed::usable_lt), unfolding(crate::specs::Calls::outcome))]
 fn on_write(s: Arbiter, core: usize, register: usize, value: usize) -> Outcome
     ensures { result ≡ outcome (Write core register value) s }
 {
-    if !core_ok(s, core) {
-        return refuse(Refusal::Register, s);
-    }
-    if !value_ok(s.slot as usize, register, value) {
+    if !core_ok(s, core) || !value_ok(s.slot as usize, register, value) {
         return refuse(Refusal::Register, s);
     }
     store(s, core, register, value as u8)
 }
 
+#[tactic(auto, unfolding(crate::specs::Calls::outcome))]
 fn on_tick(s: Arbiter) -> Outcome
     ensures { result ≡ outcome Tick s }
 {
@@ -152,27 +132,22 @@ fn on_tick(s: Arbiter) -> Outcome
     accept(ticked_state(s))
 }
 
+#[tactic(auto, unfolding(crate::specs::Calls::outcome, device::specs::Device::cleared))]
 fn on_reset(s: Arbiter, cores: usize, slot: usize) -> Outcome
     ensures { result ≡ outcome (Reset cores slot) s }
 {
     if !schedule::bus_ok(cores, slot, 0) {
         return refuse(Refusal::Register, s);
     }
-    let clear = Registers {
-        length: 0,
-        flags: 0,
-        mask: 0,
-    };
-    let fresh = Arbiter {
+    accept(Arbiter {
         cores: cores as u8,
         slot: slot as u8,
         offset: 0,
-        registers: [clear; 16],
-    };
-    accept(fresh)
+        registers: [Registers::default(); 16],
+    })
 }
 
-// Any call.
+// Any call. (A match and no closures: C names the call, and each takes other numbers.)
 pub fn on(s: Arbiter, c: Call) -> Outcome
     ensures { result ≡ outcome c s }
 {

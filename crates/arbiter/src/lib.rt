@@ -16,11 +16,11 @@
 #![tactic(auto)]
 
 use device::Arbiter;
-use refusals::Refusal;
+use refusals::Refused;
 
 pub mod calls;
 
-// A call to the arbiter.
+// A call to the arbiter. Cores and registers go by number: C gives any, and one that names none is refused.
 #[derive(Clone, Copy)]
 pub enum Call {
     // a core's register; a core's interrupt line
@@ -33,13 +33,8 @@ pub enum Call {
     Reset(usize, usize),
 }
 
-// The answer to a call; a refusal has its place beside it.
-#[derive(Clone, Copy)]
-pub enum Reply {
-    Accepted,
-    Value(u8),
-    Refused(Refusal, usize),
-}
+// The answer to a call: the value read, `None` where nothing is, or the refusal.
+pub type Reply = Result<Option<u8>, Refused>;
 
 // The state after a call, and the answer to it.
 #[derive(Clone, Copy)]

@@ -37,13 +37,6 @@ module _ (P n x k : ℕ) (lt : x < P) (most : P ≤ 256) (low : Lowest n x (x + 
         (λ g. ap (has n) (wrapped P (x + i) g (omega arith)) ∙ again.passed (x + i - P) (omega arith) (omega arith))
         (λ g. ap (has n) (mod-eq_of_lt g) ∙ low.passed (x + i) (omega arith) (omega arith))
 
-    pub ahead_none : x ≤ j → Ahead P n x P
-    ahead_none h = record {
-      most = omega arith;
-      passed = λ i l. none_to i (omega arith) (omega arith) l;
-      found = λ l. absurd (omega arith);
-    }
-
     pub ahead_again : j < x → (r : ℕ) → x + r ≡ j + P → Ahead P n x r
     ahead_again h r e = record {
       most = omega arith;
@@ -51,7 +44,6 @@ module _ (P n x k : ℕ) (lt : x < P) (most : P ≤ 256) (low : Lowest n x (x + 
       found = λ l. let z : x + r - P ≡ j = omega arith in ap (has n) (wrapped P (x + r) (omega arith) (omega arith) ∙ z) ∙ (again.found (omega arith)).1;
     }
 
--- there is one such number
 -- what judging has shown of a bus
 pub parted : (b : Bus) → Fit b → Parted b.own b.rest b.period
 parted b fit = record { least = fit.least; most = fit.most; own_in = fit.own_in; rest_in = fit.rest_in; apart = fit.apart; some = fit.some }

@@ -4,7 +4,7 @@ use mathlib.Core.Bool.{Bool, true, false, not}
 use mathlib.Core.List.{List}
 use native.Mathlib.Nat.{mod-eq_of_lt, mod-lt, add-mod_right, mul-le-mul_right, not-suc-le-zero, lt_of_lt_of_le}
 use native.Mathlib.Omega.{arith}
-use lib.ListN.{length, get_or}
+use lib.ListN.{length}
 use lib.Pow.{pow_pos, pow_mono}
 use Prim.Native.Nat.{ℕ, ◌+◌, ◌-◌, ◌%◌, ◌^◌, ◌≤◌, ◌<◌}
 use Rattle.runs.specs.Bus.{SameBus}
@@ -18,8 +18,10 @@ use Rattle.offsets.specs.declared.Set.{Set}
 use Rattle.offsets.specs.Sets.{value, has, turned_by}
 use Rattle.offsets.proofs.Members.{has_lt, has_ones}
 use Rattle.offsets.proofs.Turns.{in_turned, from_turned, turned_lt}
+use Rattle.std.specs.Prelude.{Some}
 use Rattle.bus.specs.declared.Bus.{Bus}
-use Rattle.bus.specs.Stretches.{after, InTurn}
+use Rattle.bus.specs.declared.Span.{Span}
+use Rattle.bus.specs.Stretches.{span_at, after, InTurn}
 use Rattle.bus.specs.Owning.{owns, bus_meant, Fit, Slotted}
 use Rattle.bus.proofs.Turned.{wrapped}
 
@@ -61,8 +63,8 @@ false_of t h = either t (λ e. no_way (h e)) (λ e. e)
 
 module _ (v : Slots) (ok : HasSlot v) (two : 2 ≤ v.cores) (short : period_of v ≤ 256) (mine rest : Set)
     (em : value mine ≡ turned_by (period_of v) (first v) (2 ^ v.slot - 1))
-    (er : value rest ≡ turned_by (period_of v) (first v + v.slot) (2 ^ (period_of v - v.slot) - 1)) (bs ls : List ℕ) (bs-long : length bs ≡ 16) (ls-long : length ls ≡ 16)
-    (at-begin : get_or bs 0 0 ≡ first v) (of_length : get_or ls 0 0 ≡ v.slot) where
+    (er : value rest ≡ turned_by (period_of v) (first v + v.slot) (2 ^ (period_of v - v.slot) - 1)) (spans : List Span) (long : length spans ≡ 16)
+    (at_slot : span_at spans 0 ≡ (record { begin = first v; len = v.slot })) where
   abbrev P : ℕ
   P = period_of v
 
@@ -70,7 +72,7 @@ module _ (v : Slots) (ok : HasSlot v) (two : 2 ≤ v.cores) (short : period_of v
   f = first v
 
   abbrev pub made : Bus
-  made = record { period = P; most = v.slot; own = mine; rest = rest; first = f; only = v.slot; longest = 0; stretches = record { count = 1; begins = bs; lengths = ls } }
+  made = record { period = P; most = v.slot; own = mine; rest = rest; first = f; only = Some v.slot; longest = 0; stretches = record { count = 1; spans = spans } }
 
   in_period : f + v.slot ≤ P
   in_period = slot_in v ok
@@ -160,10 +162,9 @@ module _ (v : Slots) (ok : HasSlot v) (two : 2 ≤ v.cores) (short : period_of v
   in_turn : InTurn P (owns made) made.stretches
   unfolding after
   in_turn = record {
-    begins_long = bs-long;
-    lengths_long = ls-long;
+    long = long;
     few = omega arith;
-    next = λ i l. let z : i ≡ 0 = omega arith in rw (z, at-begin, of_length) (P - v.slot, round);
+    next = λ i l. let z : i ≡ 0 = omega arith in rw (z, at_slot) (P - v.slot, round);
   }
 
   pub fit : Fit made
@@ -176,8 +177,8 @@ module _ (v : Slots) (ok : HasSlot v) (two : 2 ≤ v.cores) (short : period_of v
     longest = sym ((slotted_bus v ok two made slotted).most ∙ most_is);
     begins = λ l. begins;
     run = λ l. run;
-    nth = λ l. (omega arith, at-begin, of_length);
+    nth = λ l. (omega arith, ap (λ (x : Span). x.begin) at_slot, ap (λ (x : Span). x.len) at_slot);
     in_turn = λ l. in_turn;
-    lone = λ l. record { low = begins.low; less = omega (arith, two_in, ok.slot_pos); held = at_first; free = after_it };
+    lone = record { some = ok.slot_pos; low = begins.low; less = omega (arith, two_in, ok.slot_pos); held = at_first; free = after_it };
     some = (f, begins.low, begins.here);
   }

@@ -5,14 +5,14 @@ use mathlib.Core.List.{List}
 use native.Mathlib.Nat.{le_refl}
 use native.Mathlib.Omega.{arith}
 use borrow.Author.Tests.{lt-ltb, le-ltb}
-use lib.ListN.{length, get_or, set, length-set}
+use lib.ListN.{length, set, length-set}
 use lib.Seq.{get_or-set_same, get_or-set_other}
 use Prim.Native.Nat.{ℕ, zero, suc, ◌+◌, ◌-◌, ◌%◌, ◌≤◌, ◌<◌}
 use Rattle.runs.proofs.Cases.{split}
 use Rattle.offsets.specs.Sets.{has, members, Lowest}
 use Rattle.bus.specs.Aheads.{Ahead}
-use Rattle.bus.specs.declared.Stretches.{Stretches}
-use Rattle.bus.specs.Stretches.{length_of, after, LongestOf, Ordered}
+use Rattle.bus.specs.declared.Span.{Span}
+use Rattle.bus.specs.Stretches.{span_at, after, Ordered}
 
 -- ---- how many offsets of a set are below another
 
@@ -67,10 +67,9 @@ ahead_less P n a r l to h =
 -- ---- one stretch more
 
 module _ (P n m f : ℕ) where
-  pub ordered_none : (begins lengths : List ℕ) → length begins ≡ 16 → length lengths ≡ 16 → Lowest m 0 256 f → Ordered P n m f begins lengths 0 f
-  ordered_none begins lengths b l low = record {
-    begins_long = b;
-    lengths_long = l;
+  pub ordered_none : (spans : List Span) → length spans ≡ 16 → Lowest m 0 256 f → Ordered P n m f spans 0 f
+  ordered_none spans l low = record {
+    long = l;
     few = omega arith;
     each = λ i k. absurd (omega arith);
     first = λ k. absurd (omega arith);
@@ -79,36 +78,20 @@ module _ (P n m f : ℕ) where
     all = λ o k h. absurd (false≢true (sym (low.passed o (omega arith) k) ∙ h));
   }
 
-  module _ (begins lengths : List ℕ) (count a : ℕ) (h : Ordered P n m f begins lengths count a) where
-    -- the list is complete where a is past the period
-    pub ordered_end : P ≤ a → Ordered P n m f begins lengths count P
-    ordered_end l = record {
-      begins_long = h.begins_long;
-      lengths_long = h.lengths_long;
-      few = h.few;
-      each = h.each;
-      first = h.first;
-      next = h.next;
-      last = λ k. ((h.each (count - 1) (omega arith)).0, λ o i j. (h.last k).1 o i (omega arith));
-      all = λ o k t. h.all o (omega arith) t;
-    }
-
+  module _ (spans : List Span) (count a : ℕ) (h : Ordered P n m f spans count a) where
     module _ (room : count < 16) (inside : a < P) (here : has m a ≡ true) (at_first : count ≡ 0 → a ≡ f) (r a' : ℕ) (to : Ahead P n a r)
         (low : Lowest m (a + 1) (a + 1 + 256) a') where
-      abbrev begin : ℕ → ℕ
-      begin i = get_or (set begins count a) i 0
+      abbrev new : Span
+      new = record { begin = a; len = r }
 
-      new : begin count ≡ a
-      new = get_or-set_same begins count a 0 (omega (arith, h.begins_long))
+      abbrev more : List Span
+      more = set spans count new
 
-      old : (i : ℕ) → i < count → begin i ≡ get_or begins i 0
-      old i l = get_or-set_other begins count i a 0 (λ z. omega arith)
+      at_new : span_at more count ≡ new
+      at_new = get_or-set_same spans count new _ (omega (arith, h.long))
 
-      new_length : get_or (set lengths count r) count 0 ≡ r
-      new_length = get_or-set_same lengths count r 0 (omega (arith, h.lengths_long))
-
-      old_length : (i : ℕ) → i < count → get_or (set lengths count r) i 0 ≡ get_or lengths i 0
-      old_length i l = get_or-set_other lengths count i r 0 (λ z. omega arith)
+      at_old : (i : ℕ) → i < count → span_at more i ≡ span_at spans i
+      at_old i l = get_or-set_other spans count i new _ (λ z. omega arith)
 
       -- what holds of the old ones and of the new one
       both : (Q : ℕ → Type 0) → ((i : ℕ) → i < count → Q i) → Q count → (i : ℕ) → i < count + 1 → Q i
@@ -117,48 +100,28 @@ module _ (P n m f : ℕ) where
       beyond : a < a'
       beyond = let z = lowest_on m (a + 1) a' low in omega arith
 
-      pub ordered_more : Ordered P n m f (set begins count a) (set lengths count r) (count + 1) a'
+      pub ordered_more : Ordered P n m f more (count + 1) a'
       ordered_more = record {
-        begins_long = length-set begins count a ∙ h.begins_long;
-        lengths_long = length-set lengths count r ∙ h.lengths_long;
+        long = length-set spans count new ∙ h.long;
         few = omega arith;
-        each = both (λ i. (begin i < P) × (has m (begin i) ≡ true) × Ahead P n (begin i) (get_or (set lengths count r) i 0))
-            (λ i l. rw (old i l, old_length i l) (h.each i l)) (rw (new, new_length) (inside, here, to));
-        first = λ k. split 1 count (λ l. old 0 l ∙ h.first l) (λ l. let z : count ≡ 0 = omega arith in subst (λ i. begin i ≡ f) z (new ∙ at_first z));
+        each = both (λ i. ((span_at more i).begin < P) × (has m (span_at more i).begin ≡ true) × Ahead P n (span_at more i).begin (span_at more i).len)
+            (λ i l. rw (at_old i l) (h.each i l)) (rw at_new (inside, here, to));
+        first = λ k. split 1 count (λ l. rw (at_old 0 l) (h.first l)) (λ l. let z : count ≡ 0 = omega arith in subst (λ i. (span_at more i).begin ≡ f) z (rw at_new (at_first z)));
         next = λ i k.
             split (i + 2) count
-            (λ l. rw (old i (omega arith), old (i + 1) (omega arith)) (h.next i (omega arith)))
+            (λ l. rw (at_old i (omega arith), at_old (i + 1) (omega arith)) (h.next i (omega arith)))
             (λ l. let z : i + 1 ≡ count = omega arith in
             let y : i ≡ count - 1 = omega arith in
             let x = h.last (omega arith) in
-            subst (λ j. (begin i < begin j) × ((o : ℕ) → begin i < o → o < begin j → has m o ≡ false)) (sym z) (rw (new, old i (omega arith), y) x));
-        last = λ k. let z : count + 1 - 1 ≡ count = omega arith in rw (z, new) (beyond, λ o i j. low.passed o (omega arith) j);
+            subst (λ j. ((span_at more i).begin < (span_at more j).begin) × ((o : ℕ) → (span_at more i).begin < o → o < (span_at more j).begin → has m o ≡ false)) (sym z) (rw (at_new, at_old i (omega arith), y) x));
+        last = λ k. let z : count + 1 - 1 ≡ count = omega arith in rw (z, at_new) (beyond, λ o i j. low.passed o (omega arith) j);
         all = λ o k t.
             split a o
             (λ i. split (a + 1) o
             (λ j. absurd (false≢true (sym (low.passed o j k) ∙ t)))
-            (λ j. let z : a ≡ o = omega arith in (count, omega arith, new ∙ z)))
-            (λ i. let (j, l, e) = h.all o i t in (j, omega arith, old j l ∙ e));
+            (λ j. let z : a ≡ o = omega arith in (count, omega arith, rw at_new z)))
+            (λ i. let (j, l, e) = h.all o i t in (j, omega arith, rw (at_old j l) e));
       }
-
--- ---- a longest
-
-module _ (v : Stretches) where
-  pub longest_one : LongestOf v 1 0
-  longest_one = record { below = omega arith; each = λ i l. let z : i ≡ 0 = omega arith in rw z (le_refl _) }
-
-  module _ (i r : ℕ) (h : LongestOf v i r) where
-    pub longest_more : length_of v r < length_of v i → LongestOf v (i + 1) i
-    longest_more lt = record {
-      below = omega arith;
-      each = λ k l. split i k (λ m. let z : k ≡ i = omega arith in rw z (le_refl _)) (λ m. omega (arith, h.each k m));
-    }
-
-    pub longest_kept : length_of v i ≤ length_of v r → LongestOf v (i + 1) r
-    longest_kept le = record {
-      below = omega (arith, h.below);
-      each = λ k l. split i k (λ m. let z : k ≡ i = omega arith in rw z le) (λ m. h.each k m);
-    }
 
 -- ---- the number of the next
 

@@ -15,41 +15,38 @@ use Rattle.bus.specs.Owning.{owns, bus_meant, Fit, Alone}
 use Rattle.bus.proofs.Turned.{wrapped}
 use Rattle.bus.proofs.LoneStretch.{on_out}
 
-module _ (b : Bus) (fit : Fit b) (some : 1 ≤ b.only) where
+module _ (b : Bus) (fit : Fit b) (only : ℕ) (x : Alone b only) where
   abbrev P : ℕ
   P = b.period
 
   abbrev f : ℕ
   f = b.first
 
-  abbrev x : Alone b
-  x = fit.lone some
-
   -- from an offset at which some cycle of the next e is not owned, an access may not start
   shut : (e y i : ℕ) → i < e → owns b ((y + i) % P) ≡ false → owns_next P (owns b) e y ≡ false
   shut e y i l h = either (owns_next P (owns b) e y) (λ t. absurd (false≢true (sym h ∙ next_at P (owns b) e y t i l))) (λ t. t)
 
   -- no access is longer than the stretch
-  pub lone_most : (e : ℕ) → 1 ≤ e → e ≤ b.most → e ≤ b.only
+  pub lone_most : (e : ℕ) → 1 ≤ e → e ≤ b.most → e ≤ only
   lone_most e p l =
       let (o, k, h) = most_fits P (owns b) e p (subst (λ (n : ℕ). e ≤ n) fit.longest l) in
       let g = (o + P - f) % P in
       let few : g < P = mod-lt (o + P - f) fit.least in
       let place = cycles_to P f o x.low k in
-      let none : (i : ℕ) → i < e → b.only ≤ g + i → g + i < P → ⊥ = λ i m u v. false≢true (sym (on_out b x some o g few place i u v) ∙ next_at P (owns b) e o h i m) in
-      split e b.only (λ m. m)
-      (λ m. split b.only g
+      let none : (i : ℕ) → i < e → only ≤ g + i → g + i < P → ⊥ = λ i m u v. false≢true (sym (on_out b only x o g few place i u v) ∙ next_at P (owns b) e o h i m) in
+      split e only (λ m. m)
+      (λ m. split only g
       (λ n. absurd (none 0 p (omega arith) (omega arith)))
-      (λ n. absurd (none (b.only - g) (omega arith) (omega arith) (omega (arith, x.less)))))
+      (λ n. absurd (none (only - g) (omega arith) (omega arith) (omega (arith, x.less)))))
 
-  module _ (e o : ℕ) (long : 1 ≤ e) (le : e ≤ b.most) (lt : o < P) (fits : f + b.only ≤ P) where
-    within : e ≤ b.only
+  module _ (e o : ℕ) (long : 1 ≤ e) (le : e ≤ b.most) (lt : o < P) (fits : f + only ≤ P) where
+    within : e ≤ only
     within = lone_most e long le
 
     permitted : e ≤ (bus_meant b).most
     permitted = subst (λ (n : ℕ). e ≤ n) fit.longest le
 
-    may : (y : ℕ) → f ≤ y → y + e ≤ f + b.only → owns_next P (owns b) e y ≡ true
+    may : (y : ℕ) → f ≤ y → y + e ≤ f + only → owns_next P (owns b) e y ≡ true
     may y l m =
         next_of P (owns b) e y (λ i k.
         ap (λ (n : ℕ). owns b (n % P)) (let z : y + i ≡ f + (y - f + i) = omega arith in z) ∙ x.held (y - f + i) (omega arith))
@@ -59,11 +56,11 @@ module _ (b : Bus) (fit : Fit b) (some : 1 ≤ b.only) where
         let z : y + 0 + P ≡ f + (y + P - f) = omega (arith, x.low) in
         shut e y 0 long (ap (owns b) (sym (add-mod_right (y + 0) P) ∙ ap (λ (n : ℕ). n % P) z) ∙ x.free (y + P - f) (omega (arith, x.low)) (omega (arith, x.low)))
 
-    not_after : (y : ℕ) → f ≤ y → y < P → f + b.only < y + e → owns_next P (owns b) e y ≡ false
+    not_after : (y : ℕ) → f ≤ y → y < P → f + only < y + e → owns_next P (owns b) e y ≡ false
     not_after y l m h =
-        split y (f + b.only)
-        (λ k. let z : y + (f + b.only - y) ≡ f + b.only = omega arith in
-        shut e y (f + b.only - y) (omega arith) (ap (λ (n : ℕ). owns b (n % P)) z ∙ x.free b.only (omega arith) x.less))
+        split y (f + only)
+        (λ k. let z : y + (f + only - y) ≡ f + only = omega arith in
+        shut e y (f + only - y) (omega arith) (ap (λ (n : ℕ). owns b (n % P)) z ∙ x.free only (omega arith) x.less))
         (λ k. let z : y + 0 ≡ f + (y - f) = omega arith in
         shut e y 0 long (ap (λ (n : ℕ). owns b (n % P)) z ∙ x.free (y - f) (omega arith) (omega arith)))
 
@@ -80,11 +77,11 @@ module _ (b : Bus) (fit : Fit b) (some : 1 ≤ b.only) where
         )
 
     -- inside it, with room for e cycles
-    pub case_inside : f ≤ o → o ≤ f + b.only - e → (bus_meant b).wait e o ≡ 0
+    pub case_inside : f ≤ o → o ≤ f + only - e → (bus_meant b).wait e o ≡ 0
     case_inside h k = wait_none P (owns b) fit.least e o long permitted lt (may o h (omega (arith, within)))
 
     -- after that
-    pub case_after : f + b.only - e < o → (bus_meant b).wait e o ≡ f + P - o
+    pub case_after : f + only - e < o → (bus_meant b).wait e o ≡ f + P - o
     unfolding owning
     case_after h =
         wait_only (owning P (owns b)) (owning_lawful P (owns b) fit.least) e long permitted o lt (f + P - o) (

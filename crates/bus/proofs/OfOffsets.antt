@@ -11,10 +11,12 @@ use Rattle.runs.specs.Stretches.{IsRun, Begins, NextStretch}
 use Rattle.runs.proofs.Cases.{split}
 use Rattle.runs.proofs.SchedulesLaws.{next_of, most_least, most_le}
 use Rattle.runs.proofs.Nexts.{run_fits, run_holds, begun as begun-run}
+use Rattle.runs.proofs.Forward as forward
 use Rattle.runs.proofs.BeginsLaws.{longest_begins, lone_free, all_owned}
 use Rattle.offsets.specs.declared.Set.{Set}
 use Rattle.offsets.specs.Sets.{value, has, members, Lowest}
 use Rattle.offsets.proofs.Members.{same_truth}
+use Rattle.std.specs.Prelude.{Option, None, Some, MatchOption, ⊤}
 use Rattle.bus.specs.declared.Bus.{Bus}
 use Rattle.bus.specs.declared.Stretches.{Stretches}
 use Rattle.bus.specs.Stretches.{begun, begin_of, length_of, after, InTurn, LongestOf, Begun, Ordered}
@@ -56,13 +58,13 @@ module _ {own rest : Set} {P : ℕ} (fit : Parted own rest P) (s : Set) (at : Be
     before = λ a l h. fit.apart ((a + P - 1) % P) (mod-lt _ fit.least) ∙ ap not ((at a l).0 h).before;
   }
 
-  module _ (f : ℕ) (low : Lowest (value s) 0 256 f) (v : Stretches) (h : Ordered P (value rest) (value s) f v.begins v.lengths v.count P) where
+  module _ (f : ℕ) (low : Lowest (value s) 0 256 f) (v : Stretches) (h : Ordered P (value rest) (value s) f v.spans v.count P) where
     -- every stretch is listed
     number : (a : ℕ) → Begins P owns a → (i : ℕ) × (i < v.count) × (begin_of v i ≡ a)
     number a b = h.all a b.low ((at a b.low).1 b)
 
     -- none is: every offset is owned
-    pub fit_whole : v.count ≡ 0 → Fit record { period = P; most = P; own = own; rest = rest; first = 0; only = 0; longest = 0; stretches = v }
+    pub fit_whole : v.count ≡ 0 → Fit record { period = P; most = P; own = own; rest = rest; first = 0; only = None; longest = 0; stretches = v }
     fit_whole e =
         let every = all_owned P owns fit.some (λ a b. let (i, l, x) = number a b in not-suc-le-zero (let z : i < 0 = omega arith in z)) in
         let up = most_least P owns P 0 (omega arith) fit.least (next_of P owns P 0 (λ i k. every ((0 + i) % P) (mod-lt _ fit.least))) in
@@ -77,7 +79,7 @@ module _ {own rest : Set} {P : ℕ} (fit : Parted own rest P) (s : Set) (at : Be
           run = λ k. absurd (omega arith);
           nth = λ k. absurd (omega arith);
           in_turn = λ k. absurd (omega arith);
-          lone = λ k. absurd (not-suc-le-zero k);
+          lone = tt;
           some = fit.some;
         }
 
@@ -136,8 +138,7 @@ module _ {own rest : Set} {P : ℕ} (fit : Parted own rest P) (s : Set) (at : Be
     in_turn : InTurn P owns v
     unfolding after
     in_turn = record {
-      begins_long = h.begins_long;
-      lengths_long = h.lengths_long;
+      long = h.long;
       few = h.few;
       next = λ i l.
           split (i + 2) v.count
@@ -170,10 +171,10 @@ module _ {own rest : Set} {P : ℕ} (fit : Parted own rest P) (s : Set) (at : Be
           let h = run_fits P owns a (length_of v i) (suc m) y t in
           let z : 1 ≤ 0 = omega (arith, far.each i l, h) in not-suc-le-zero z))
 
-      abbrev made : ℕ → Bus
+      abbrev made : Option ℕ → Bus
       made n = record { period = P; most = m; own = own; rest = rest; first = x; only = n; longest = r; stretches = v }
 
-      fit_made : (n : ℕ) → (1 ≤ n → Alone (made n)) → Fit (made n)
+      fit_made : (n : Option ℕ) → MatchOption n ⊤ (Alone (made n)) → Fit (made n)
       fit_made n lone = record {
         least = fit.least;
         most = fit.most;
@@ -189,12 +190,13 @@ module _ {own rest : Set} {P : ℕ} (fit : Parted own rest P) (s : Set) (at : Be
         some = fit.some;
       }
 
-      pub fit_many : Fit (made 0)
-      fit_many = fit_made 0 (λ k. absurd (not-suc-le-zero k))
+      pub fit_many : Fit (made None)
+      fit_many = fit_made None tt
 
       -- no other stretch begins
-      pub fit_lone : v.count ≡ 1 → Fit (made m)
-      fit_lone one = fit_made m (λ k. record {
+      pub fit_lone : v.count ≡ 1 → Fit (made (Some m))
+      fit_lone one = fit_made (Some m) record {
+        some = let (gap, n) = in_turn.next r far.below in forward.some_len P owns x m gap _ n;
         low = x_begins.low;
         less = less;
         held = run.owned;
@@ -202,9 +204,9 @@ module _ {own rest : Set} {P : ℕ} (fit : Parted own rest P) (s : Set) (at : Be
             let (i, l, e) = number a b in
             let z : i ≡ r = omega (arith, far.below) in
             sym e ∙ ap (begin_of v) z);
-      })
+      }
 
       -- whichever of the two `only` is
-      pub fit_either : (n : ℕ) → ((v.count ≡ 1) × (n ≡ m)) ⊎ (n ≡ 0) → Fit (made n)
-      fit_either n (inl h) = subst (λ (k : ℕ). Fit (made k)) (sym h.1) (fit_lone h.0)
-      fit_either n (inr z) = subst (λ (k : ℕ). Fit (made k)) (sym z) fit_many
+      pub fit_either : (n : Option ℕ) → ((v.count ≡ 1) × (n ≡ Some m)) ⊎ (n ≡ None) → Fit (made n)
+      fit_either n (inl h) = subst (λ (k : Option ℕ). Fit (made k)) (sym h.1) (fit_lone h.0)
+      fit_either n (inr z) = subst (λ (k : Option ℕ). Fit (made k)) (sym z) fit_many

@@ -1,5 +1,5 @@
 -- A bus of the program as owned offsets: what it stands for, and what its functions promise. Definitions only.
-use Rattle.std.specs.Prelude.{◌≡◌, Bool, true, false, not, ℕ, ◌+◌, ◌%◌, ◌^◌, ◌≤◌, ◌<◌}
+use Rattle.std.specs.Prelude.{◌≡◌, Bool, true, false, not, ℕ, ◌+◌, ◌%◌, ◌^◌, ◌≤◌, ◌<◌, ⊤, MatchOption}
 use Rattle.runs.specs.Bus.{Bus as RunBus}
 use Rattle.runs.specs.Slots.{Slots, first, period_of}
 use Rattle.runs.specs.Schedules.{owning}
@@ -17,12 +17,13 @@ owns b o = has (value b.own) o
 abbrev pub bus_meant : Bus → RunBus
 bus_meant b = owning b.period (owns b)
 
--- the offsets that the core owns are the `only` ones from `first` on
-pub record Alone (b : Bus) : Type 0 where
+-- the offsets that the core owns are `only` ones from `first` on
+pub record Alone (b : Bus) (only : ℕ) : Type 0 where
+  pub some : 1 ≤ only
   pub low : b.first < b.period
-  pub less : b.only < b.period
-  pub held : (i : ℕ) → i < b.only → owns b ((b.first + i) % b.period) ≡ true
-  pub free : (i : ℕ) → b.only ≤ i → i < b.period → owns b ((b.first + i) % b.period) ≡ false
+  pub less : only < b.period
+  pub held : (i : ℕ) → i < only → owns b ((b.first + i) % b.period) ≡ true
+  pub free : (i : ℕ) → only ≤ i → i < b.period → owns b ((b.first + i) % b.period) ≡ false
 
 -- what the offsets that a core owns and those that it does not are to each other
 pub record Parted (own rest : Set) (P : ℕ) : Type 0 where
@@ -46,7 +47,7 @@ pub record Fit (b : Bus) : Type 0 where
   pub run : b.most < b.period → IsRun b.period (owns b) b.first b.most
   pub nth : b.most < b.period → Nth b.stretches b.longest b.first b.most
   pub in_turn : b.most < b.period → InTurn b.period (owns b) b.stretches
-  pub lone : 1 ≤ b.only → Alone b
+  pub lone : MatchOption b.only ⊤ (Alone b)
   pub some : (o : ℕ) × (o < b.period) × (has (value b.own) o ≡ true)
 
 -- b is the bus of equal slots v: "Core p owns offsets p × slot to (p + 1) × slot − 1."

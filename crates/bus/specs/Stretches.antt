@@ -3,6 +3,7 @@ use Rattle.std.specs.Prelude.{◌≡◌, List, Bool, true, false, not, cond, ◌
 use Rattle.runs.specs.Stretches.{NextStretch}
 use Rattle.offsets.specs.Sets.{has, members, Lowest}
 use Rattle.bus.specs.Aheads.{Ahead}
+use Rattle.bus.specs.declared.Span.{Span}
 use Rattle.bus.specs.declared.Stretches.{Stretches}
 
 -- how many stretches begin below the offset k, of those of the owned offsets of the period P
@@ -10,12 +11,15 @@ unfoldable pub begun : ℕ → (ℕ → Bool) → ℕ → ℕ
 begun P own zero = 0
 begun P own (suc k) = begun P own k + cond (own k && not (own ((k + P - 1) % P))) 1 0
 
--- the stretch with the number i: where it begins, and its length
+-- the stretch with the number i; where it begins, and its length
+abbrev pub span_at : List Span → ℕ → Span
+span_at spans i = get_or spans i (record { begin = 0; len = 0 })
+
 abbrev pub begin_of : Stretches → ℕ → ℕ
-begin_of v i = get_or v.begins i 0
+begin_of v i = (span_at v.spans i).begin
 
 abbrev pub length_of : Stretches → ℕ → ℕ
-length_of v i = get_or v.lengths i 0
+length_of v i = (span_at v.spans i).len
 
 -- the number of the one after it, of n, round the period
 unfoldable pub after : ℕ → ℕ → ℕ
@@ -27,8 +31,7 @@ Nth v i x len = (i < v.count) × (begin_of v i ≡ x) × (length_of v i ≡ len)
 
 -- v is the list of the stretches of the owned offsets: from each it leads on to the next
 pub record InTurn (P : ℕ) (own : ℕ → Bool) (v : Stretches) : Type 0 where
-  pub begins_long : length v.begins ≡ 16
-  pub lengths_long : length v.lengths ≡ 16
+  pub long : length v.spans ≡ 16
   pub few : v.count ≤ 16
   pub next : (i : ℕ) → i < v.count → (gap : ℕ) × NextStretch P own (begin_of v i) (length_of v i) gap (begin_of v (after v.count i))
 
@@ -44,14 +47,13 @@ pub record Begun (P n m f : ℕ) : Type 0 where
   pub few : members m P ≤ 16
   pub before : (a : ℕ) → a < P → has m a ≡ true → has n ((a + P - 1) % P) ≡ true
 
--- the first `count` of `begins` are the offsets of the set m below a in their order, f the first, and in `lengths` stands how far it is from each to
--- the next of the set n
-pub record Ordered (P n m f : ℕ) (begins lengths : List ℕ) (count a : ℕ) : Type 0 where
-  pub begins_long : length begins ≡ 16
-  pub lengths_long : length lengths ≡ 16
+-- the first `count` of `spans` begin at the offsets of the set m below a in their order, f the first, and each is as long as it is far to the next of
+-- the set n
+pub record Ordered (P n m f : ℕ) (spans : List Span) (count a : ℕ) : Type 0 where
+  pub long : length spans ≡ 16
   pub few : count ≤ 16
-  pub each : (i : ℕ) → i < count → (get_or begins i 0 < P) × (has m (get_or begins i 0) ≡ true) × Ahead P n (get_or begins i 0) (get_or lengths i 0)
-  pub first : 0 < count → get_or begins 0 0 ≡ f
-  pub next : (i : ℕ) → i + 1 < count → (get_or begins i 0 < get_or begins (i + 1) 0) × ((o : ℕ) → get_or begins i 0 < o → o < get_or begins (i + 1) 0 → has m o ≡ false)
-  pub last : 0 < count → (get_or begins (count - 1) 0 < a) × ((o : ℕ) → get_or begins (count - 1) 0 < o → o < a → has m o ≡ false)
-  pub all : (o : ℕ) → o < a → has m o ≡ true → (i : ℕ) × (i < count) × (get_or begins i 0 ≡ o)
+  pub each : (i : ℕ) → i < count → ((span_at spans i).begin < P) × (has m (span_at spans i).begin ≡ true) × Ahead P n (span_at spans i).begin (span_at spans i).len
+  pub first : 0 < count → (span_at spans 0).begin ≡ f
+  pub next : (i : ℕ) → i + 1 < count → ((span_at spans i).begin < (span_at spans (i + 1)).begin) × ((o : ℕ) → (span_at spans i).begin < o → o < (span_at spans (i + 1)).begin → has m o ≡ false)
+  pub last : 0 < count → ((span_at spans (count - 1)).begin < a) × ((o : ℕ) → (span_at spans (count - 1)).begin < o → o < a → has m o ≡ false)
+  pub all : (o : ℕ) → o < a → has m o ≡ true → (i : ℕ) × (i < count) × ((span_at spans i).begin ≡ o)

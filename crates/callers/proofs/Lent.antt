@@ -1,6 +1,6 @@
 -- Steps that the walks over a lent arbiter share: the borrow is opened, a function by value has replied, and the borrow is closed at the state that it returned.
 use Prim.Native.Nat.{ℕ}
-use mathlib.Core.Path.{◌≡◌}
+use mathlib.Core.Path.{◌≡◌, refl}
 use mathlib.Core.List.{List, [], ◌∷◌}
 use seplogic.Ra.Ura.{Ura}
 use base.Fraction.{full_share}
@@ -21,27 +21,61 @@ use denote.Struct.Laws as LL
 use denote.Enum.Laws as EL
 use Rattle.device.specs.declared.Arbiter.{Arbiter}
 use Rattle.arbiter.specs.declared.Outcome.{Outcome}
-use Rattle.arbiter.specs.declared.Reply.{Reply}
+use Rattle.arbiter.specs.Calls.{Reply}
 use Rattle.device.specs.contracts.Arbiter as T
 use Rattle.device.proofs.Arbiter.TheLaws as T'
 use Rattle.arbiter.specs.contracts.Outcome as O
 use Rattle.arbiter.proofs.Outcome.TheLaws as O'
-use Rattle.arbiter.specs.contracts.Reply as E
-use Rattle.arbiter.proofs.Reply.TheLaws as E'
+use denote.Builtin.{u8}
+use denote.RattleType.{RattleType}
+use denote.Param.{layout}
+use denote.Param.Laws.{Laws, Told, of_field, field_told, struct_told}
+use denote.Param.Plain.{enum_plain, struct_plain}
+use denote.Param.Shared.{copy_shared}
+use denote.Struct.Field.{u8-field}
+use denote.Struct.Laws.{u8-laws, u8-copy, u8-plain}
+use Rattle.refusals.specs.contracts.Refused as F
+use Rattle.std.specs.contracts.option.Option as N
+use Rattle.std.specs.contracts.result.Result as E
+use Rattle.std.proofs.result.Result.TheLaws as E'
+use Rattle.std.proofs.option.Option.TheLaws as N'
+use Rattle.refusals.proofs.Refused.TheLaws as F'
 
 -- machine values
 abbrev pub state_vals : Arbiter → List Val
 state_vals a = LL.vals T.the_type T'.the_laws a
 
+-- the answer's type is std's: its laws from those of a byte, of an `Option` and of a refusal
+abbrev byte_laws : Laws u8
+byte_laws = of_field u8-field u8-laws refl (copy_shared u8-field u8-copy)
+
+abbrev byte_told : Told u8
+byte_told = field_told u8-field u8-laws
+
+abbrev option : RattleType
+option = N.the_row u8
+
+abbrev option_laws : Laws option
+option_laws = N'.the_row_laws u8 byte_laws
+
+abbrev option_told : Told option
+option_told = N'.the_told u8 byte_laws byte_told
+
+abbrev pub reply_row : RattleType
+reply_row = E.the_row option F.the_row
+
+abbrev laws : EL.Laws (E.the_type option F.the_row)
+laws = E'.the_laws option F.the_row option_laws F'.the_row_laws option_told (struct_told F.the_type F'.the_laws)
+
 abbrev pub reply_val : Reply → Val
-reply_val r = EL.val E.the_type E'.the_laws r
+reply_val r = EL.val (E.the_type option F.the_row) laws r
 
 -- the state and the reply within an outcome
 module _ (r : Outcome) (v : Val) (is : Is O.the_row r (v ∷ [])) where
   pub is_state : Is T.the_row r.state (state_vals r.state)
   is_state = (LL.owed O.the_type O'.the_laws r (v ∷ []) is).0
 
-  pub is_reply : Is E.the_row r.reply (reply_val r.reply ∷ [])
+  pub is_reply : Is reply_row r.reply (reply_val r.reply ∷ [])
   is_reply = (LL.owed O.the_type O'.the_laws r (v ∷ []) is).1.0
 
 module _ {M : Type 1} {𝓤 : Ura M} {𝓛 : Logic 𝓤} {K : Type 0} {Γ : List (Item 𝓤)} {G : Goal 𝓤 𝓛.H} where
@@ -75,15 +109,15 @@ module _ {M : Type 1} {𝓤 : Ura M} (𝓛 : Logic 𝓤) where
   pub outcome_typed : (r : Outcome) (v : Val) → Is O.the_row r (v ∷ []) → Holds (has_ty O'.mir v) × WT v
   outcome_typed r v is = ((LL.lawful O.the_type O'.the_laws 𝓛).typed r _ is).0
 
-  pub reply_typed : (r : Reply) → Is E.the_row r (reply_val r ∷ []) → Holds (has_ty E'.mir (reply_val r)) × WT (reply_val r)
-  reply_typed r is = ((EL.lawful E.the_type E'.the_laws 𝓛 tt).typed r _ is).0
+  pub reply_typed : (r : Reply) → Is reply_row r (reply_val r ∷ []) → Holds (has_ty (layout reply_row) (reply_val r)) × WT (reply_val r)
+  reply_typed r is = ((EL.lawful (E.the_type option F.the_row) laws 𝓛 tt).typed r _ is).0
 
 -- what a state and a reply own is had for nothing
 pub state_makes : {M : Type 1} {𝓤 : Ura M} (𝓛 : Logic 𝓤) → Makes 𝓛 T.the_row (Is T.the_row)
 state_makes 𝓛 = LL.makes T.the_type T'.the_plain 𝓛
 
-pub reply_makes : {M : Type 1} {𝓤 : Ura M} (𝓛 : Logic 𝓤) → Makes 𝓛 E.the_row (Is E.the_row)
-reply_makes 𝓛 = EL.makes E.the_type E'.the_plain 𝓛
+pub reply_makes : {M : Type 1} {𝓤 : Ura M} (𝓛 : Logic 𝓤) → Makes 𝓛 reply_row (Is reply_row)
+reply_makes 𝓛 = EL.makes (E.the_type option F.the_row) (E'.the_plain option F.the_row (enum_plain (N.the_type u8) (N'.the_plain u8 u8-plain)) (struct_plain F.the_type F'.the_plain)) 𝓛
 
 -- the local that holds an outcome, and its machine value written out
 abbrev pub outcome_cell : {M : Type 1} (𝓤 : Ura M) → ℕ → List Val → Item 𝓤

@@ -12,9 +12,8 @@ use Rattle.device.specs.declared.Arbiter.{Arbiter}
 use Rattle.arbiter.specs.declared.Call.{Call}
 use Rattle.arbiter.specs.declared.Call.TheVariants.{Reset}
 use Rattle.arbiter.specs.declared.Outcome.{Outcome}
-use Rattle.arbiter.specs.declared.Reply.{Reply}
 use Rattle.device.specs.Device.{sized, cleared}
-use Rattle.arbiter.specs.Calls.{outcome, after, answer, refuse}
+use Rattle.arbiter.specs.Calls.{Reply, outcome, after, answer, refuse}
 use Rattle.callers.specs.Callers.{has_right, outcome_by, after_by, answer_by, Asked, answers_to, drives, concerns_by, concerning_by}
 use Rattle.callers.specs.Conditions.{Right, own_register, own_line, own_write, every_register, every_line, workshop_ticks, workshop_resets}
 use Rattle.device.proofs.Tests.{or_right, or_first, same}

@@ -7,8 +7,7 @@ use Rattle.device.specs.declared.Arbiter.{Arbiter}
 use Rattle.arbiter.specs.declared.Call.{Call}
 use Rattle.arbiter.specs.declared.Call.TheVariants.{Read, Line, Write, Tick, Reset}
 use Rattle.arbiter.specs.declared.Outcome.{Outcome}
-use Rattle.arbiter.specs.declared.Reply.{Reply}
-use Rattle.arbiter.specs.Calls.{outcome, refuse}
+use Rattle.arbiter.specs.Calls.{Reply, outcome, refuse}
 
 -- "its own": the caller k is a core, and p is its number
 unfoldable pub is_own : ℕ → ℕ → Bool

@@ -4,8 +4,7 @@ use Rattle.arbiter.specs.declared.Call.{Call}
 use Rattle.callers.specs.Callers.{after_by, answer_by}
 use Rattle.callers.specs.Conditions.{RefusedBy}
 use Rattle.device.specs.declared.Arbiter.{Arbiter}
-use Rattle.arbiter.specs.declared.Reply.{Reply}
-use Rattle.arbiter.specs.Calls.{told, refused}
+use Rattle.arbiter.specs.Calls.{Reply, told, refused}
 
 -- From every state, the answer and the state at exit are those of the caller's call. It is refused with a number if and only if the condition for
 -- that holds, with place 0, and then the state is as it was.

@@ -22,43 +22,38 @@ use arbiter::{Call, Outcome, Reply};
 use device::Arbiter;
 use refusals::Refusal;
 
-// The caller that is no core.
+// The caller that is no core. Callers are numbers: C gives any, and one that is neither is refused.
 const WORKSHOP: usize = 16;
 
 // Is the caller a core, and this its number?
+#[tactic(auto, unfolding(crate::specs::Callers::is_own))]
 fn owns(caller: usize, core: usize) -> bool
     ensures { result ≡ is_own caller core }
 {
-    if 16 <= caller {
-        return false;
-    }
-    caller == core
+    caller < WORKSHOP && caller == core
 }
 
 // May the caller read this core's registers and line?
 fn may_read(caller: usize, core: usize) -> bool
     ensures { result ≡ may_read caller core }
 {
-    if caller == WORKSHOP {
-        return true;
-    }
-    owns(caller, core)
+    caller == WORKSHOP || owns(caller, core)
 }
 
 // Has the caller the right to this call? It goes by caller, core and call, not by register or value.
+#[tactic(auto, unfolding(crate::specs::Callers::has_right, crate::specs::Callers::is_own))]
 fn has_right(caller: usize, c: Call) -> bool
     ensures { result ≡ has_right caller c }
 {
     match c {
-        Call::Read(core, register) => may_read(caller, core),
-        Call::Line(core) => may_read(caller, core),
-        Call::Write(core, register, value) => owns(caller, core),
-        Call::Tick => caller == WORKSHOP,
-        Call::Reset(cores, slot) => caller == WORKSHOP,
+        Call::Read(core, _) | Call::Line(core) => may_read(caller, core),
+        Call::Write(core, _, _) => owns(caller, core),
+        Call::Tick | Call::Reset(_, _) => caller == WORKSHOP,
     }
 }
 
 // A caller's call, with the state by value.
+#[tactic(auto, unfolding(crate::specs::Callers::outcome_by))]
 pub fn asked(s: Arbiter, caller: usize, c: Call) -> Outcome
     ensures { result ≡ outcome_by caller c s }
 {
@@ -68,78 +63,47 @@ pub fn asked(s: Arbiter, caller: usize, c: Call) -> Outcome
     on(s, c)
 }
 
-// `asked` of one kind of call each; the entry without `_by` copies the state out, calls this and stores the state that it leaves.
-fn read_by(s: Arbiter, caller: usize, core: usize, register: usize) -> Outcome
-    ensures { result ≡ outcome_by caller (Read core register) s }
+// A caller's call on the lent state: it is copied out, and the state that the call leaves is stored.
+#[tactic(auto, using(crate::proofs::Rights::promised))]
+fn make(a: &mut Arbiter, caller: usize, c: Call) -> Reply
+    ensures { Answers caller c a.old a.new result }
 {
-    asked(s, caller, Call::Read(core, register))
-}
-
-fn line_by(s: Arbiter, caller: usize, core: usize) -> Outcome
-    ensures { result ≡ outcome_by caller (Line core) s }
-{
-    asked(s, caller, Call::Line(core))
-}
-
-fn write_by(s: Arbiter, caller: usize, core: usize, register: usize, value: usize) -> Outcome
-    ensures { result ≡ outcome_by caller (Write core register value) s }
-{
-    asked(s, caller, Call::Write(core, register, value))
-}
-
-fn tick_by(s: Arbiter, caller: usize) -> Outcome
-    ensures { result ≡ outcome_by caller Tick s }
-{
-    asked(s, caller, Call::Tick)
-}
-
-fn reset_by(s: Arbiter, caller: usize, cores: usize, slot: usize) -> Outcome
-    ensures { result ≡ outcome_by caller (Reset cores slot) s }
-{
-    asked(s, caller, Call::Reset(cores, slot))
+    let o = asked(*a, caller, c);
+    *a = o.state;
+    o.reply
 }
 
 // A core's register.
 pub fn read(a: &mut Arbiter, caller: usize, core: usize, register: usize) -> Reply
     ensures { Answers caller (Read core register) a.old a.new result }
 {
-    let o = read_by(*a, caller, core, register);
-    *a = o.state;
-    o.reply
+    make(a, caller, Call::Read(core, register))
 }
 
 // A core's interrupt line.
 pub fn line(a: &mut Arbiter, caller: usize, core: usize) -> Reply
     ensures { Answers caller (Line core) a.old a.new result }
 {
-    let o = line_by(*a, caller, core);
-    *a = o.state;
-    o.reply
+    make(a, caller, Call::Line(core))
 }
 
 // A value to a core's register.
 pub fn write(a: &mut Arbiter, caller: usize, core: usize, register: usize, value: usize) -> Reply
     ensures { Answers caller (Write core register value) a.old a.new result }
 {
-    let o = write_by(*a, caller, core, register, value);
-    *a = o.state;
-    o.reply
+    make(a, caller, Call::Write(core, register, value))
 }
 
 // One cycle of the bus.
 pub fn tick(a: &mut Arbiter, caller: usize) -> Reply
     ensures { Answers caller Tick a.old a.new result }
 {
-    let o = tick_by(*a, caller);
-    *a = o.state;
-    o.reply
+    make(a, caller, Call::Tick)
 }
 
 // A bus of this many cores and this slot length, with all registers and the offset clear.
 pub fn reset(a: &mut Arbiter, caller: usize, cores: usize, slot: usize) -> Reply
     ensures { Answers caller (Reset cores slot) a.old a.new result }
 {
-    let o = reset_by(*a, caller, cores, slot);
-    *a = o.state;
-    o.reply
+    make(a, caller, Call::Reset(cores, slot))
 }

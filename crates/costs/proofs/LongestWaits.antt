@@ -20,10 +20,6 @@ use Rattle.costs.specs.Costs.{LongestWait, Slowest}
 use Rattle.exits.proofs.Landings.{all_own}
 use Rattle.exits.proofs.Served.{Met, none_past}
 
--- nothing is gone
-pub longest_none : (P : ℕ) (own : ℕ → Bool) (n e y : ℕ) → LongestWait P own n e 0 y 0 0
-longest_none P own n e y = record { within = omega arith; one = λ h. absurd (omega arith); most = λ w l m t o. absurd (omega arith) }
-
 -- ---- from the stretch at x on to the one at y
 
 module _ (P : ℕ) (own : ℕ → Bool) (n e x len gap y before gone : ℕ) (c : NextStretch P own x len gap y) (some : 1 ≤ e)
@@ -104,9 +100,6 @@ pub record Kept (b : Bus) (e : ℕ) (s : Set) (gone at best : ℕ) : Type 0 wher
   pub here : has (value s) at ≡ true
   pub waits : best ≤ (bus_meant b).wait e at
   pub most : (i w : ℕ) → 1 ≤ i → i ≤ gone → WaitsFor b e s ((b.first + i) % b.period) w → w ≤ best
-
-pub kept_first : (b : Bus) (e : ℕ) (s : Set) (o : ℕ) → o < b.period → has (value s) o ≡ true → Kept b e s 0 o 0
-kept_first b e s o l t = record { low = l; here = t; waits = omega arith; most = λ i w h k t. absurd (omega arith) }
 
 module _ (b : Bus) (fit : Fit b) (e : ℕ) (some : 1 ≤ e) (fine : e ≤ b.most) (s : Set) where
   abbrev P : ℕ

@@ -14,42 +14,40 @@ ghost use Rattle.offsets.specs.Sets.{value, has};
 ghost use Rattle.exits.specs.Exits.{bits_of, BusReady};
 ghost use Rattle.costs.specs.Costs.{LongestWaitNext, Slowest};
 
-use bus::Bus;
-use exits::smaller;
+use bus::{Bus, Stretch};
 use offsets::Set;
 
-// The longest wait of an offset of s, with an access of e cycles, for the stretch that begins after the one of len cycles at x and `gap` offsets that
-// are not owned; only one longer than `floor` counts, and without one the answer is no more. `before` is the longest wait for the stretch at x.
+// The longest wait of an offset of s, with an access of e cycles, for the stretch that begins after the stretch x and `gap` offsets that are not
+// owned; only one longer than `floor` counts, and without one the answer is no more. `before` is the longest wait for the stretch x.
 fn longest_wait(
     b: Bus,
     e: usize,
-    x: usize,
-    len: usize,
+    x: Stretch,
     gap: usize,
     before: usize,
     floor: usize,
     s: Set,
 ) -> usize
-    requires { Fit b × (1 ≤ e) × (e ≤ b.most) × (x < b.period) × (before + (len + gap) ≤ b.period) }
-    ensures { LongestWaitNext b.period (owns b) (value s) e x len gap before floor result }
+    requires { Fit b × (1 ≤ e) × (e ≤ b.most) × (x.at < b.period) × (before + (x.len + gap) ≤ b.period) }
+    ensures { LongestWaitNext b.period (owns b) (value s) e x.at x.len gap before floor result }
 {
     // the stretch has no room, and who waited for it waits on
-    if len < e {
+    if x.len < e {
         if 0 < before {
-            return before + (len + gap);
+            return before + (x.len + gap);
         }
     }
     // it has room: who waits stands in the gap, or in its last e - 1 cycles
-    if e <= len {
+    if e <= x.len {
         let wait = gap + e - 1;
         if wait <= floor {
             return 0;
         }
     }
     // so many offsets of the stretch are passed over, since an access from them starts at once; the first offset of s after them waits longest
-    let past = len + 1 - smaller(len + 1, e);
-    let free = past + bus::ahead(s, bus::turn_by(x, past, b.period), b.period);
-    len + gap - smaller(len + gap, free)
+    let past = (x.len + 1).saturating_sub(e);
+    let free = past + bus::ahead(s, bus::turn_by(x.at, past, b.period), b.period);
+    (x.len + gap).saturating_sub(free)
 }
 
 // An offset of s from which an access of e cycles waits longest, found stretch by stretch; o is any offset of s. Where the core owns every offset none
@@ -64,24 +62,20 @@ fn farthest(b: Bus, e: usize, s: Set, o: usize) -> usize
     let mut at = o;
     let mut best = 0;
     let mut far = 0;
-    let mut i = b.longest;
-    let mut x = b.first;
-    let mut len = b.most;
+    let mut x = bus::first_stretch(b);
     let mut gone = 0;
     while gone < b.period {
-        let n = bus::next_stretch(b, i, x, len);
+        let n = bus::next_stretch(b, x);
         // where the next stretch has room, only a longer wait than is known counts; where it has none, each does
-        let floor = if e <= n.len { best } else { 0 };
-        far = longest_wait(b, e, x, len, n.gap, far, floor, s);
-        gone += len + n.gap;
-        i = n.i;
-        x = n.at;
-        len = n.len;
+        let floor = if e <= n.stretch.len { best } else { 0 };
+        far = longest_wait(b, e, x, n.gap, far, floor, s);
+        gone += x.len + n.gap;
+        x = n.stretch;
         // the stretch has room: those that wait for it start there
-        if e <= len {
+        if e <= x.len {
             if best < far {
                 best = far;
-                at = bus::turn_back_by(x, far, b.period);
+                at = bus::turn_back_by(x.at, far, b.period);
             }
         }
     }

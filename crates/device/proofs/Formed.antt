@@ -1,10 +1,10 @@
 -- What the tests of a state say in plain terms (specs/Conditions), and back.
 use mathlib.Core.Path.{◌≡◌, refl, ◌∙◌}
 use mathlib.Core.Logic.{◌⊎◌, inl, inr, ⊎_elim}
-use mathlib.Core.Bool.{true, false, ◌&&◌, ◌||◌}
+use mathlib.Core.Bool.{true, ◌&&◌, ◌||◌}
 use mathlib.Core.List.{List, [], ◌∷◌}
 use native.Mathlib.Omega.{arith}
-use borrow.Author.Tests.{leb-true, ltb-true, lt-ltb, le-ltb, le-leb, eqb-true, eq-eqb}
+use borrow.Author.Tests.{leb-true, ltb-true, lt-ltb, le-leb, eqb-true, eq-eqb}
 use lib.Dec.{leb, ltb, eqb}
 use lib.ListN.{get_or}
 use Prim.Native.Nat.{ℕ, zero, suc, ◌*◌, ◌≤◌, ◌<◌}
@@ -69,13 +69,11 @@ clear_fits slot = and_both (le-leb 0 slot (omega arith)) refl
 
 -- those of all cores, by number
 pub fits_at : (slot : ℕ) (rs : List Registers) (p : ℕ) → all_fit slot rs ≡ true → fits slot (get_or rs p clear) ≡ true
-unfolding all_fit
 fits_at slot [] p e = clear_fits slot
 fits_at slot (x ∷ xs) zero e = and_left (fits slot x) _ e
 fits_at slot (x ∷ xs) (suc p) e = fits_at slot xs p (and_right (fits slot x) _ e)
 
 each_fit : (slot : ℕ) (rs : List Registers) → ((p : ℕ) → fits slot (get_or rs p clear) ≡ true) → all_fit slot rs ≡ true
-unfolding all_fit
 each_fit slot [] f = refl
 each_fit slot (x ∷ xs) f = and_both (f 0) (each_fit slot xs (λ p. f (suc p)))
 
@@ -101,14 +99,6 @@ well_formed a e =
     record { size = f.size; offset_lt = f.offset_lt; each_fit = λ p. fits_true a.slot (registers_of a p) (fits_at a.slot a.registers p f.fit) }
 
 module _ (a : Arbiter) where
-  pub size_bad : sized a.cores a.slot ≡ false → formed a ≡ false
-  unfolding formed
-  size_bad e = rw e
-
-  pub offset_bad : sized a.cores a.slot ≡ true → a.cores * a.slot ≤ a.offset → formed a ≡ false
-  unfolding formed
-  offset_bad e h = rw (e, le-ltb a.offset (a.cores * a.slot) h)
-
   pub formed_fit : sized a.cores a.slot ≡ true → a.offset < a.cores * a.slot → formed a ≡ all_fit a.slot a.registers
   unfolding formed
   formed_fit e h = rw (e, lt-ltb a.offset (a.cores * a.slot) h)

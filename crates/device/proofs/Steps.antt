@@ -52,19 +52,17 @@ stepped_fits slot v o r e =
     rw (stepped_is v o r) (either (starts_now v o r || eqb r.flags 2) (λ t. rw t (run_fits slot r e)) (λ t. rw t e))
 
 stepped_all : (a : Arbiter) (rs : List Registers) (k : ℕ) → all_fit a.slot rs ≡ true → all_fit a.slot (stepped_from a k rs) ≡ true
-unfolding stepped_from all_fit
+unfolding stepped_from
 stepped_all a [] k e = refl
 stepped_all a (r ∷ rs) k e =
     and_both (stepped_fits a.slot (slots_of_core a k) a.offset r (and_left (fits a.slot r) _ e)) (stepped_all a rs (suc k) (and_right (fits a.slot r) _ e))
 
 fits_set : (slot : ℕ) (rs : List Registers) (p : ℕ) (r : Registers) → all_fit slot rs ≡ true → fits slot r ≡ true → all_fit slot (set rs p r) ≡ true
-unfolding all_fit
 fits_set slot [] p r e f = refl
 fits_set slot (x ∷ xs) zero r e f = and_both f (and_right (fits slot x) _ e)
 fits_set slot (x ∷ xs) (suc p) r e f = and_both (and_left (fits slot x) _ e) (fits_set slot xs p r (and_right (fits slot x) _ e) f)
 
 all_clear : (slot n : ℕ) → all_fit slot (replicate n clear) ≡ true
-unfolding all_fit
 all_clear slot zero = refl
 all_clear slot (suc n) = and_both (clear_fits slot) (all_clear slot n)
 

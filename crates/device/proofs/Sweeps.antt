@@ -1,6 +1,5 @@
--- One more core: in the judgement of the registers, and in a tick.
+-- One more core in a tick.
 use mathlib.Core.Path.{◌≡◌}
-use mathlib.Core.Bool.{true, ◌&&◌}
 use mathlib.Core.List.{List, [], ◌∷◌, ◌++◌, append_assoc, append-nil}
 use native.Mathlib.Numerals.{add-one}
 use native.Mathlib.Omega.{arith}
@@ -9,15 +8,7 @@ use lib.Seq.{drop-cons, take-suc-set, drop-set-lt, take_all}
 use Prim.Native.Nat.{ℕ, suc, ◌+◌, ◌≤◌, ◌<◌}
 use Rattle.device.specs.declared.Arbiter.{Arbiter}
 use Rattle.device.specs.declared.Registers.{Registers}
-use Rattle.device.specs.Device.{fits, all_fit, clear, slots_of_core, stepped, stepped_from}
-
-pub fit_more : (slot : ℕ) (rs : List Registers) (i : ℕ) → i < length rs → all_fit slot (drop i rs) ≡ (fits slot (get_or rs i clear) && all_fit slot (drop (i + 1) rs))
-unfolding all_fit
-fit_more slot rs i h = rw (add-one, drop-cons rs i clear h)
-
-pub fit_end : (slot : ℕ) (rs : List Registers) (i : ℕ) → length rs ≤ i → all_fit slot (drop i rs) ≡ true
-unfolding all_fit
-fit_end slot rs i h = rw (drop_of_length-le rs h)
+use Rattle.device.specs.Device.{clear, slots_of_core, stepped, stepped_from}
 
 module _ (a : Arbiter) where
   -- cores below i stepped, the others still to be

@@ -1,5 +1,6 @@
 -- The arbiter's state, what its registers may hold, and a tick (document 02, "The arbiter as a device"). Definitions only.
-use Rattle.std.specs.Prelude.{Bool, true, cond, ◌&&◌, ◌||◌, List, [], ◌∷◌, leb, ltb, eqb, get_or, set, replicate, ℕ, suc, ◌+◌, ◌-◌, ◌*◌, ◌%◌}
+use Rattle.std.specs.Prelude.{Bool, cond, ◌&&◌, ◌||◌, List, [], ◌∷◌, leb, ltb, eqb, get_or, set, replicate, ℕ, suc, ◌+◌, ◌-◌, ◌*◌, ◌%◌}
+use Rattle.std.specs.List.{list_all}
 use Rattle.runs.specs.Slots.{Slots, in_slot}
 use Rattle.schedule.specs.Said.{bus_ok}
 use Rattle.device.specs.declared.Arbiter.{Arbiter}
@@ -25,9 +26,8 @@ unfoldable pub fits : ℕ → Registers → Bool
 fits slot r = leb r.length slot && (leb r.mask 1 && flags_fit r)
 
 -- those of every core
-unfoldable pub all_fit : ℕ → List Registers → Bool
-all_fit slot [] = true
-all_fit slot (r ∷ rs) = fits slot r && all_fit slot rs
+abbrev pub all_fit : ℕ → List Registers → Bool
+all_fit slot rs = list_all (fits slot) rs
 
 -- a state with no number out of range, "unused cores' registers, up to core 15, counted"
 unfoldable pub formed : Arbiter → Bool

@@ -1,6 +1,6 @@
 -- Which block an edit finds, test by test; and an edit is refused if and only if the condition for it holds.
 use borrow.Author.Tests.{lt-ltb, le-ltb, eq-eqb, ne_eqb}
-use mathlib.Core.Path.{◌≡◌, refl, sym, ◌∙◌, ap}
+use mathlib.Core.Path.{◌≡◌, refl, sym, ◌∙◌, ap, subst}
 use mathlib.Core.Bool.{Bool, true, false, cond}
 use mathlib.Core.List.{List}
 use lib.ListN.{length}
@@ -13,12 +13,12 @@ use Rattle.image.specs.Judged.{judged}
 use Rattle.refusals.specs.declared.Refusal.{Refusal}
 use Rattle.refusals.specs.declared.Refusal.TheVariants.{Value, Block}
 use Rattle.image.specs.declared.Outline.{Outline}
-use Rattle.image.specs.declared.Verdict.{Verdict}
-use Rattle.image.specs.declared.Verdict.TheVariants.{Accepted, Refused}
+use Rattle.std.specs.Prelude.{Result, Ok, Err}
+use Rattle.refusals.specs.declared.Refused.{Refused}
+use Rattle.refusals.specs.Refusals.{refused_at}
 use Rattle.rows.proofs.Rules.{durations_kept, kept_durations}
 use Rattle.image.proofs.Longest.{longest}
 use Rattle.image.proofs.Reasons.{refused_when, when_refused, when_accepted, accepted_when}
-use Rattle.edits.specs.declared.Found.TheVariants.{At, Refused as NotFound}
 use Rattle.edits.specs.Edits.{place_of, is_plain, found_for, found}
 use Rattle.edits.specs.Promise.{EditCondition, unaccepted, no_block, out_of_range, Editable}
 use Rattle.edits.specs.Steps.{Finding}
@@ -27,7 +27,7 @@ use Rattle.edits.proofs.Standing.{inside}
 
 -- what `find` knows where it has read the tag of the node's field
 pub record Tagged (s : List ℕ) (node : ℕ) (k : Outline) (at tag : ℕ) : Type 0 where
-  pub judged_so : judged s ≡ Accepted k
+  pub judged_so : judged s ≡ Ok k
   pub exists : node < k.nodes
   pub place : at ≡ place_of s node
   pub read : tag ≡ byte_at s at
@@ -35,39 +35,39 @@ pub record Tagged (s : List ℕ) (node : ℕ) (k : Outline) (at tag : ℕ) : Typ
 module _ (s : List ℕ) (node lo hi : ℕ) where
   -- ---- what `find` gives at each of its returns
 
-  not_there : (r : Refusal) (place : ℕ) → found s node lo hi ≡ NotFound r place → Finding s node lo hi (NotFound r place)
-  not_there r place e = record { is = sym e; at = λ p q. absurd (let z : ◌≡◌ {A = ℕ} 0 1 = cc in omega arith) }
+  not_there : (x : Refused) → found s node lo hi ≡ Err x → Finding s node lo hi (Err x)
+  not_there x e = record { is = sym e; at = λ p q. absurd (let z : ◌≡◌ {A = ℕ} 0 1 = cc in omega arith) }
 
-  pub refused_found : (r : Refusal) (place : ℕ) → judged s ≡ Refused r place → Finding s node lo hi (NotFound r place)
+  pub refused_found : (x : Refused) → judged s ≡ Err x → Finding s node lo hi (Err x)
   unfolding found
-  refused_found r place e = not_there r place (rw e)
+  refused_found x e = not_there x (rw e)
 
-  pub none_found : (k : Outline) → judged s ≡ Accepted k → k.nodes ≤ node → Finding s node lo hi (NotFound Block (length s))
+  pub none_found : (k : Outline) → judged s ≡ Ok k → k.nodes ≤ node → Finding s node lo hi (Err (refused_at Block (length s)))
   unfolding found
-  none_found k e l = not_there Block (length s) (rw (e, le-ltb node k.nodes l))
+  none_found k e l = not_there (refused_at Block (length s)) (rw (e, le-ltb node k.nodes l))
 
   module _ (k : Outline) (at tag : ℕ) (t : Tagged s node k at tag) where
     tag_is : tag ≡ byte_at s (place_of s node)
     tag_is = t.read ∙ ap (byte_at s) t.place
 
-    pub other_found : (tag ≡ 3 → ⊥) → Finding s node lo hi (NotFound Block (length s))
+    pub other_found : (tag ≡ 3 → ⊥) → Finding s node lo hi (Err (refused_at Block (length s)))
     unfolding found
     other_found n =
-        not_there Block (length s)
+        not_there (refused_at Block (length s))
         (rw (t.judged_so, lt-ltb node k.nodes t.exists, ne_eqb (byte_at s (place_of s node)) 3 (λ q. n (tag_is ∙ q))))
 
     module _ (three : tag ≡ 3) where
       plain : byte_at s (place_of s node) ≡ 3
       plain = sym tag_is ∙ three
 
-      by_range : (ok : Bool) → plain_ok lo hi ≡ ok → found s node lo hi ≡ cond ok (At at) (NotFound Value at)
+      by_range : (ok : Bool) → plain_ok lo hi ≡ ok → found s node lo hi ≡ cond ok (Ok at) (Err (refused_at Value at))
       unfolding found
       by_range ok p = rw (t.judged_so, lt-ltb node k.nodes t.exists, eq-eqb (byte_at s (place_of s node)) 3 plain, p, t.place)
 
-      pub range_found : plain_ok lo hi ≡ false → Finding s node lo hi (NotFound Value at)
-      range_found p = not_there Value at (by_range false p)
+      pub range_found : plain_ok lo hi ≡ false → Finding s node lo hi (Err (refused_at Value at))
+      range_found p = not_there (refused_at Value at) (by_range false p)
 
-      pub at_found : plain_ok lo hi ≡ true → Finding s node lo hi (At at)
+      pub at_found : plain_ok lo hi ≡ true → Finding s node lo hi (Ok at)
       at_found p =
           let a = when_accepted s k t.judged_so in
           let r = durations_kept lo hi p in
@@ -82,35 +82,33 @@ module _ (s : List ℕ) (node lo hi : ℕ) where
 
   -- ---- the conditions
 
-  because_for : (v : Verdict) → judged s ≡ v → (r : Refusal) (place : ℕ) → found_for s node lo hi v ≡ NotFound r place → EditCondition s node lo hi r place
-  because_for (Refused x p) e r place q =
-      let a : x ≡ r = cc in
-      let b : p ≡ place = cc in
-      unaccepted r place (when_refused s r place (rw (← a, ← b) e))
-  because_for (Accepted k) e r place q =
+  abbrev Because : Refused → Type 0
+  Because x = EditCondition s node lo hi x.refusal x.place
+
+  because_for : (v : Result Outline Refused) → judged s ≡ v → (x : Refused) → found_for s node lo hi v ≡ Err x → EditCondition s node lo hi x.refusal x.place
+  because_for (Err y) e x q = let w : y ≡ x = cc in subst Because w (unaccepted y.refusal y.place (when_refused s y.refusal y.place e))
+  because_for (Ok k) e x q =
       let a = when_accepted s k e in
       either (is_plain s k node)
       (λ t. either (plain_ok lo hi)
       (λ u. absurd (let f = rw (t, u) at q in let z : ◌≡◌ {A = ℕ} 0 1 = cc in omega arith))
       (λ u.
-      let f : NotFound Value (place_of s node) ≡ NotFound r place = rw (t, u) at q in
-      let x : Value ≡ r = cc in
-      let p : place_of s node ≡ place = cc in
-      rw (← x, ← p) (out_of_range k a (plain_is s node k t) (λ d. never (sym (kept_durations lo hi d) ∙ u)))))
+      let f = rw (t, u) at q in
+      let w : refused_at Value (place_of s node) ≡ x = cc in
+      subst Because w (out_of_range k a (plain_is s node k t) (λ d. never (sym (kept_durations lo hi d) ∙ u)))))
       (λ t.
-      let f : NotFound Block (length s) ≡ NotFound r place = rw t at q in
-      let x : Block ≡ r = cc in
-      let p : length s ≡ place = cc in
-      rw (← x, ← p) (no_block k a (λ d. never (sym (is_plain_lem s node k d) ∙ t))))
+      let f = rw t at q in
+      let w : refused_at Block (length s) ≡ x = cc in
+      subst Because w (no_block k a (λ d. never (sym (is_plain_lem s node k d) ∙ t))))
     where
       never : true ≡ false → ⊥
       never q = let z : ◌≡◌ {A = ℕ} 0 1 = cc in omega arith
 
-  pub edit_because : (r : Refusal) (place : ℕ) → found s node lo hi ≡ NotFound r place → EditCondition s node lo hi r place
+  pub edit_because : (x : Refused) → found s node lo hi ≡ Err x → EditCondition s node lo hi x.refusal x.place
   unfolding found
-  edit_because r place q = because_for (judged s) refl r place q
+  edit_because x q = because_for (judged s) refl x q
 
-  pub edit_whenever : (r : Refusal) (place : ℕ) → EditCondition s node lo hi r place → found s node lo hi ≡ NotFound r place
+  pub edit_whenever : (r : Refusal) (place : ℕ) → EditCondition s node lo hi r place → found s node lo hi ≡ Err (refused_at r place)
   unfolding found
   edit_whenever r place (unaccepted _ _ c) = rw (refused_when s r place c)
   edit_whenever Block _ (no_block k a n) =
@@ -121,17 +119,17 @@ module _ (s : List ℕ) (node lo hi : ℕ) where
       (either (plain_ok lo hi) (λ t. absurd (n (durations_kept lo hi t))) (λ t. rw t))
 
   -- the edit is done if and only if it is possible
-  pub found_when : Editable s node lo hi → found s node lo hi ≡ At (place_of s node)
+  pub found_when : Editable s node lo hi → found s node lo hi ≡ Ok (place_of s node)
   unfolding found
   found_when d = rw (accepted_when s d.outline d.accepting, is_plain_lem s node d.outline d.block, kept_durations lo hi d.durations)
 
-  pub when_found : (place : ℕ) → found s node lo hi ≡ At place → Editable s node lo hi
+  pub when_found : (place : ℕ) → found s node lo hi ≡ Ok place → Editable s node lo hi
   unfolding found
   when_found place q = by_verdict (judged s) refl q
     where
-      by_verdict : (v : Verdict) → judged s ≡ v → found_for s node lo hi v ≡ At place → Editable s node lo hi
-      by_verdict (Refused x p) e q = absurd (let z : ◌≡◌ {A = ℕ} 0 1 = cc in omega arith)
-      by_verdict (Accepted k) e q =
+      by_verdict : (v : Result Outline Refused) → judged s ≡ v → found_for s node lo hi v ≡ Ok place → Editable s node lo hi
+      by_verdict (Err x) e q = absurd (let z : ◌≡◌ {A = ℕ} 0 1 = cc in omega arith)
+      by_verdict (Ok k) e q =
           either (is_plain s k node)
           (λ t. either (plain_ok lo hi)
           (λ u. record { outline = k; accepting = when_accepted s k e; block = plain_is s node k t; durations = durations_kept lo hi u })

@@ -18,7 +18,7 @@ use Rattle.nodes.specs.Nodes.{node_from, meant, node_at, tree_at}
 use Rattle.image.specs.Tasks.{starts_of}
 use Rattle.image.specs.Conditions.{Complete, Ending, last, named, Accepting}
 use Rattle.image.specs.Judged.{judged}
-use Rattle.image.specs.declared.Verdict.TheVariants.{Accepted}
+use Rattle.std.specs.Prelude.{Ok}
 use Rattle.rows.proofs.Standing.{next_at, unclosed_fewer}
 use Rattle.rows.proofs.Unmoved as unmoved
 use Rattle.rows.proofs.Kept.{first_end}
@@ -202,5 +202,5 @@ module _ (s : List ℕ) (node lo hi : ℕ) (d : Editable s node lo hi) where
         narrow = a.narrow;
       }
 
-  pub still_accepted : judged after ≡ Accepted d.outline
+  pub still_accepted : judged after ≡ Ok d.outline
   still_accepted = accepted_when after d.outline still_accepting

@@ -1,23 +1,33 @@
 -- The image whose four bytes are two durations: those bytes, all others, and what a copy of it is.
-use mathlib.Core.Path.{◌≡◌, ◌∙◌, subst}
-use mathlib.Core.List.{List, ◌++◌}
+use borrow.Rule.Slice.PartMut.{put_mid}
+use mathlib.Core.Path.{◌≡◌, refl, ◌∙◌, ap, subst}
+use mathlib.Core.List.{List, [], ◌∷◌, ◌++◌}
 use lib.ListN.{length, set, take, length-set}
 use lib.Seq.{get_or-set_same, get_or-set_other, set-append_left, take_at, ext_get_or}
 use native.Mathlib.Omega.{arith}
-use Prim.Native.Nat.{ℕ, ◌+◌, ◌/◌, ◌%◌, ◌≤◌, ◌<◌}
+use Prim.Native.Nat.{ℕ, zero, suc, ◌+◌, ◌/◌, ◌%◌, ◌≤◌, ◌<◌}
 use Rattle.runs.proofs.Cases.{split}
 use Rattle.image_bytes.specs.Bytes.{byte_at, word_at}
 use Rattle.edits.specs.Edits.{with_durations}
 
 -- one store, two and three
-abbrev one : List ℕ → ℕ → ℕ → List ℕ
+abbrev pub one : List ℕ → ℕ → ℕ → List ℕ
 one s b lo = set s b (lo / 256)
 
-abbrev two : List ℕ → ℕ → ℕ → List ℕ
+abbrev pub two : List ℕ → ℕ → ℕ → List ℕ
 two s b lo = set (one s b lo) (b + 1) (lo % 256)
 
-abbrev three : List ℕ → ℕ → ℕ → ℕ → List ℕ
+abbrev pub three : List ℕ → ℕ → ℕ → ℕ → List ℕ
 three s b lo hi = set (two s b lo) (b + 2) (hi / 256)
+
+-- two bytes copied to a place are two bytes set
+pub pair_set : (s : List ℕ) (b x y : ℕ) → b + 2 ≤ length s → put_mid b 2 s (x ∷ y ∷ []) ≡ set (set s b x) (b + 1) y
+pair_set [] b x y h = absurd (omega arith)
+pair_set (u ∷ []) b x y h = absurd (omega arith)
+pair_set (u ∷ v ∷ s) zero x y h = refl
+pair_set (u ∷ v ∷ s) (suc b) x y h =
+    let e : suc b + 1 ≡ suc (b + 1) = omega arith in
+    rw e (ap (λ (l : List ℕ). u ∷ l) (pair_set (v ∷ s) b x y (omega arith)))
 
 module _ (s : List ℕ) (b lo hi : ℕ) where
   pub written_length : length (with_durations s b lo hi) ≡ length s

@@ -1,18 +1,13 @@
 -- An edit of one plain block's durations (document 02, "Trying a change before making it"): the answer and the image at exit, over the image's
 -- bytes. Definitions only.
-use Rattle.std.specs.Prelude.{Bool, cond, ◌&&◌, List, length, set, eqb, ltb, ℕ, ◌+◌, ◌/◌, ◌%◌}
+use Rattle.std.specs.Prelude.{Bool, cond, ◌&&◌, List, length, set, eqb, ltb, ℕ, ◌+◌, ◌/◌, ◌%◌, Result, Ok, Err, ⊤}
 use Rattle.rows.specs.Tests.{plain_ok}
 use Rattle.rows.specs.Fields.{field_at, tag_at, body_at}
 use Rattle.image.specs.Judged.{judged}
-use Rattle.refusals.specs.Refusals.{number_of}
+use Rattle.refusals.specs.Refusals.{number_of, refused_at}
 use Rattle.refusals.specs.declared.Refusal.TheVariants.{Value, Block}
 use Rattle.image.specs.declared.Outline.{Outline}
-use Rattle.image.specs.declared.Verdict.{Verdict}
-use Rattle.image.specs.declared.Verdict.TheVariants.{Accepted, Refused}
-use Rattle.edits.specs.declared.Found.{Found}
-use Rattle.edits.specs.declared.Found.TheVariants.{At, Refused as NotFound}
-use Rattle.edits.specs.declared.Edited.{Edited}
-use Rattle.edits.specs.declared.Edited.TheVariants.{Done, Refused as NotDone}
+use Rattle.refusals.specs.declared.Refused.{Refused}
 
 -- where the field of a node stands: node n has n + 2 fields before it
 abbrev pub place_of : List ℕ → ℕ → ℕ
@@ -33,15 +28,15 @@ is_plain s k node = ltb node k.nodes && eqb (tag_at s (node + 2)) 3
 
 -- "Unaccepted images are refused first, by their own numbers"; then 19, "with the image's length as place", "judged before that 5", and
 -- 5 "at that block's field". Else the place of the field.
-abbrev pub found_for : List ℕ → ℕ → ℕ → ℕ → Verdict → Found
-found_for s node lowest highest (Refused r place) = NotFound r place
-found_for s node lowest highest (Accepted k) =
+abbrev pub found_for : List ℕ → ℕ → ℕ → ℕ → Result Outline Refused → Result ℕ Refused
+found_for s node lowest highest (Err e) = Err e
+found_for s node lowest highest (Ok k) =
     cond (is_plain s k node)
-    (cond (plain_ok lowest highest) (At (place_of s node)) (NotFound Value (place_of s node)))
-    (NotFound Block (length s))
+    (cond (plain_ok lowest highest) (Ok (place_of s node)) (Err (refused_at Value (place_of s node))))
+    (Err (refused_at Block (length s)))
 
 -- the same, the image judged
-unfoldable pub found : List ℕ → ℕ → ℕ → ℕ → Found
+unfoldable pub found : List ℕ → ℕ → ℕ → ℕ → Result ℕ Refused
 found s node lowest highest = found_for s node lowest highest (judged s)
 
 -- ---- the edit
@@ -52,14 +47,14 @@ pub data Change : Type 0 where
   refused : (number place : ℕ) → Change
 
 -- of what `edit` answers
-abbrev pub change_of : Edited → Change
-change_of Done = done
-change_of (NotDone r place) = refused (number_of r) place
+abbrev pub change_of : Result ⊤ Refused → Change
+change_of (Ok _) = done
+change_of (Err e) = refused (number_of e.refusal) e.place
 
 -- of what is found
-abbrev pub change_for : Found → Change
-change_for (At place) = done
-change_for (NotFound r place) = refused (number_of r) place
+abbrev pub change_for : Result ℕ Refused → Change
+change_for (Ok place) = done
+change_for (Err e) = refused (number_of e.refusal) e.place
 
 -- done, or refused with a number at a place
 abbrev pub change : List ℕ → ℕ → ℕ → ℕ → Change

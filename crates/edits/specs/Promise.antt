@@ -1,5 +1,5 @@
 -- What `edit` promises, over the image s, the numbers, the answer and the image at exit. Definitions only.
-use Rattle.std.specs.Prelude.{◌≡◌, ◌⊎◌, List, length, ℕ, ◌+◌, ◌≤◌, ◌<◌}
+use Rattle.std.specs.Prelude.{◌≡◌, ◌⊎◌, List, length, ℕ, ◌+◌, ◌≤◌, ◌<◌, Result, Ok, Err, ⊤}
 use Rattle.runs.specs.Nodes.{Node, depth, visits}
 use Rattle.image_bytes.specs.Bytes.{byte_at}
 use Rattle.nodes.specs.Nodes.{node_at, tree_at}
@@ -10,10 +10,8 @@ use Rattle.image.specs.Judged.{judged}
 use Rattle.refusals.specs.declared.Refusal.{Refusal}
 use Rattle.refusals.specs.declared.Refusal.TheVariants.{Value, Block}
 use Rattle.image.specs.declared.Outline.{Outline}
-use Rattle.image.specs.declared.Verdict.TheVariants.{Accepted}
+use Rattle.refusals.specs.declared.Refused.{Refused}
 use Rattle.edits.specs.Edits.{place_of, change_of, change, image_after}
-use Rattle.edits.specs.declared.Edited.{Edited}
-use Rattle.edits.specs.declared.Edited.TheVariants.{Done, Refused as NotDone}
 
 -- ---- when an edit is possible, and when it is refused
 
@@ -42,12 +40,12 @@ pub data EditCondition (s : List ℕ) (node lowest highest : ℕ) : Refusal → 
 -- ---- `edit`, over the image at entry and at exit
 
 -- equality, for refused edits too; refused if and only if the condition for it holds, and done only if it is possible
-pub record Editing (s : List ℕ) (node lowest highest : ℕ) (r : Edited) (after : List ℕ) : Type 0 where
+pub record Editing (s : List ℕ) (node lowest highest : ℕ) (r : Result ⊤ Refused) (after : List ℕ) : Type 0 where
   pub result : change_of r ≡ change s node lowest highest
   pub image : after ≡ image_after s node lowest highest
-  pub because : (x : Refusal) (place : ℕ) → r ≡ NotDone x place → EditCondition s node lowest highest x place
-  pub whenever : (x : Refusal) (place : ℕ) → EditCondition s node lowest highest x place → r ≡ NotDone x place
-  pub possible : r ≡ Done → Editable s node lowest highest
+  pub because : (e : Refused) → r ≡ Err e → EditCondition s node lowest highest e.refusal e.place
+  pub whenever : (e : Refused) → EditCondition s node lowest highest e.refusal e.place → r ≡ Err e
+  pub possible : r ≡ Ok tt → Editable s node lowest highest
 
 -- the durations l to h are possible in an edited image, and restore the bytes s
 pub record Restores (s : List ℕ) (node l h : ℕ) (after : List ℕ) : Type 0 where
@@ -57,7 +55,7 @@ pub record Restores (s : List ℕ) (node l h : ℕ) (after : List ℕ) : Type 0 
 -- what an edit that is done leaves of the image s, whose outline is k
 pub record Leaves (s : List ℕ) (k : Outline) (node lowest highest : ℕ) (after : List ℕ) : Type 0 where
   -- an accepted image: the same bus, number of starts, nodes and entry
-  pub accepted : judged after ≡ Accepted k
+  pub accepted : judged after ≡ Ok k
   -- "alters no others"
   pub long : length after ≡ length s
   pub outside : (i : ℕ) → (i < place_of s node + 3) ⊎ (place_of s node + 7 ≤ i) → byte_at after i ≡ byte_at s i
@@ -71,5 +69,5 @@ pub record Leaves (s : List ℕ) (k : Outline) (node lowest highest : ℕ) (afte
   pub back : (l h : ℕ) → node_at s node ≡ Node.plain l h → Restores s node l h after
 
 -- an edit that is possible is done
-abbrev pub EditDone : List ℕ → ℕ → ℕ → ℕ → Edited → List ℕ → Type 0
-EditDone s node lowest highest r after = (e : Editable s node lowest highest) → (r ≡ Done) × Leaves s e.outline node lowest highest after
+abbrev pub EditDone : List ℕ → ℕ → ℕ → ℕ → Result ⊤ Refused → List ℕ → Type 0
+EditDone s node lowest highest r after = (e : Editable s node lowest highest) → (r ≡ Ok tt) × Leaves s e.outline node lowest highest after

@@ -14,71 +14,50 @@ ghost use Rattle.edits.specs.Edits.{with_durations};
 ghost use Rattle.edits.specs.Promise.{Editing, EditDone};
 ghost use Rattle.edits.specs.Steps.{Room, Finding};
 
-use image::Verdict;
-use refusals::Refusal;
+use refusals::{Refusal, Refused};
 
-// The edit is done, or why not and at which place.
-#[derive(Clone, Copy)]
-pub enum Edited {
-    Done,
-    Refused(Refusal, usize),
-}
-
-// The place of the block's field, or why there is no edit and at which place.
-#[derive(Clone, Copy)]
-pub enum Found {
-    At(usize),
-    Refused(Refusal, usize),
-}
-
-// The block that an edit alters: refused are an image by its own numbers, then a node that is no plain block, then the durations.
-pub fn find(image: &[u8], node: usize, lowest: usize, highest: usize) -> Found
+// The place of the field of the block that an edit alters: refused are an image by its own numbers, then a node that is no plain block, then the
+// durations.
+pub fn find(image: &[u8], node: usize, lowest: usize, highest: usize) -> Result<usize, Refused>
     ensures { Finding image.now node lowest highest result }
 {
     let j = image::judge(image);
     let places = j.places;
-    let verdict = j.verdict;
-    match verdict {
-        Verdict::Refused(r, place) => Found::Refused(r, place),
-        Verdict::Accepted(k) => {
-            if k.nodes <= node {
-                return Found::Refused(Refusal::Block, image.len());
-            }
-            let at = places[node];
-            if image_bytes::byte(image, at) != 3 {
-                return Found::Refused(Refusal::Block, image.len());
-            }
-            if !rows::plain_ok(lowest, highest) {
-                return Found::Refused(Refusal::Value, at);
-            }
-            Found::At(at)
-        }
+    let k = j.verdict?;
+    let none = Refused {
+        refusal: Refusal::Block,
+        place: image.len(),
+    };
+    if k.nodes <= node {
+        return Err(none);
     }
+    let at = places[node];
+    if image_bytes::byte(image, at) != 3 {
+        return Err(none);
+    }
+    if !rows::plain_ok(lowest, highest) {
+        let refusal = Refusal::Value;
+        return Err(Refused { refusal, place: at });
+    }
+    Ok(at)
 }
 
-// Sets the four bytes of the durations of the plain block whose field stands at a place.
+// Sets the four bytes of the durations of the plain block whose field stands at a place: two numbers of two bytes.
 pub fn set_durations(image: &mut [u8], at: usize, lowest: usize, highest: usize)
     requires { Room (length image.old) at lowest highest }
     ensures { image.new ≡ with_durations image.old (at + 3) lowest highest }
 {
     let body = at + 3;
-    image[body] = (lowest / 256) as u8;
-    image[body + 1] = (lowest % 256) as u8;
-    image[body + 2] = (highest / 256) as u8;
-    image[body + 3] = (highest % 256) as u8;
+    image[body..body + 2].copy_from_slice(&(lowest as u16).to_be_bytes());
+    image[body + 2..body + 4].copy_from_slice(&(highest as u16).to_be_bytes());
 }
 
 // Sets one plain block's durations; a refused edit changes no byte.
-pub fn edit(image: &mut [u8], node: usize, lowest: usize, highest: usize) -> Edited
+pub fn edit(image: &mut [u8], node: usize, lowest: usize, highest: usize) -> Result<(), Refused>
     ensures equality { Editing image.old node lowest highest result image.new }
     ensures done { EditDone image.old node lowest highest result image.new }
 {
-    let found = find(image, node, lowest, highest);
-    match found {
-        Found::Refused(r, place) => Edited::Refused(r, place),
-        Found::At(at) => {
-            set_durations(image, at, lowest, highest);
-            Edited::Done
-        }
-    }
+    let at = find(image, node, lowest, highest)?;
+    set_durations(image, at, lowest, highest);
+    Ok(())
 }

@@ -9,29 +9,26 @@ ghost use Rattle.std.specs.Prelude.{OnOk};
 ghost use Rattle.std.specs.Io.KnownBytes.{Appends};
 ghost use Rattle.listing.specs.Listings.{listing_of};
 
-use input::{Input, read_input};
+use input::read_input;
 use std::io;
 use std::io::Write;
-use text::Written;
 
-// Writes the listing of an image. The buffer has the 8,192 bytes that `listing` asks for, so that it always answers `Bytes`.
+// Writes the listing of an image. The buffer has the 8,192 bytes that `listing` asks for, so that there always is one.
 fn put_listing<W: Write>(image: &[u8], output: &mut W) -> io::Result<()>
     ensures { OnOk result (Appends (W.contents output.old) (W.contents output.new) (listing_of image.now)) }
 {
     let mut out = [0u8; 8192];
-    let written = listing::listing(image, &mut out);
-    match written {
-        Written::Bytes(k) => output.write_all(&out[..k]),
-        Written::Short => Ok(()),
-        Written::NoTable => Ok(()),
+    let listed = listing::listing(image, &mut out);
+    match listed {
+        Ok(k) => output.write_all(&out[..k]),
+        Err(_) => Ok(()),
     }
 }
 
 // Only an input that was read whole is listed.
 fn main(rt: HostRuntime) {
     let mut buffer = [0u8; 16384];
-    let input = read_input(&mut rt.stdin(), &mut buffer);
-    let Input::Whole(n) = input else {
+    let Ok(n) = read_input(&mut rt.stdin(), &mut buffer) else {
         let _ = rt
             .stderr()
             .write_all(b"figure: reading standard input failed: no figures\n");

@@ -3,7 +3,7 @@
 use mathlib.Core.Path.{◌≡◌, ap₂}
 use mathlib.Core.List.{List}
 use native.Mathlib.Nat.{le_refl}
-use Prim.Native.Nat.{ℕ, ◌≤◌}
+use Prim.Native.Nat.{ℕ, ◌+◌, ◌≤◌}
 use Rattle.runs.specs.Schedules.{owning}
 use Rattle.runs.specs.Clock.{with_lines}
 use Rattle.runs.specs.Runs.{is_start}
@@ -18,13 +18,17 @@ use Rattle.runs.specs.Bus.{SameBus}
 use Rattle.schedule.specs.Said.{said}
 use Rattle.image.specs.Tasks.{starts_of, task_of}
 use Rattle.nodes.specs.Nodes.{tree_at}
-use Rattle.rows.specs.Fields.{body_at}
+use Rattle.rows.specs.Fields.{length_at, body_at}
+use Rattle.rows.proofs.Kept.{good_body}
+use Rattle.image.proofs.Sounds.{stand}
+use lib.ListN.{length}
+use native.Mathlib.Omega.{arith}
 use Rattle.image.specs.Walks.{Walkable}
 use Rattle.image.specs.declared.Outline.{Outline}
 use Rattle.image.specs.declared.Walk.{Walk}
 use Rattle.schedule.proofs.Sayings.{said_small}
 use Rattle.image.proofs.Walks.{valid_at}
-use Rattle.figures.specs.Steps.{Answerable, Listing}
+use Rattle.figures.specs.Steps.{Answerable}
 
 -- the period of an accepted image is at most 256
 pub period_most : (s : List ℕ) (k : Outline) (places : List ℕ) → Answerable s k places → k.period ≤ 256
@@ -46,16 +50,11 @@ module _ (s : List ℕ) (w : Walk) (places : List ℕ) (h : Walkable s w places)
   unfolding owning
   period_said = h.same.period
 
-  -- the starts are below the walk's period
-  pub listing : (place : ℕ) → (place ≡ body_at s 1) × (place ≤ 65541) → Listing s place w.bus.period w.outline.starts
-  listing place e = record {
-    most = h.fit.most;
-    count = h.sound.accepting.starts;
-    few = h.sound.starts_few;
-    below = λ i l. rw (e.0, period_said) (h.sound.starts.low i l);
-    stands = e.0;
-    near = e.1;
-  }
+  -- field 2 lists as many starts as the outline says, inside the image
+  pub listing : (w.outline.starts ≡ length_at s 1) × (body_at s 1 + w.outline.starts ≤ length s)
+  listing =
+      let a = h.sound.accepting in
+      (a.starts, omega (arith, a.starts, good_body s 1 (stand s w.outline a 1 (omega arith)).0))
 
   valid : Valid (bus_meant w.bus).most entry
   valid = valid_at s w places h w.outline.entry (le_refl w.outline.entry)

@@ -1,5 +1,5 @@
+pub mod Listed
 pub mod OneMore
-pub mod Filling
 pub mod Entries
 pub mod Bridge
 pub mod Starting

@@ -14,7 +14,7 @@ use Rattle.runs.specs.Lines.{power}
 use Rattle.runs.specs.Clock.{with_lines}
 use Rattle.runs.specs.Nodes.{Tree, visits}
 use Rattle.runs.specs.Runs.{is_start}
-use Rattle.runs.specs.Carried.{join_below}
+use Rattle.runs.specs.Carried.{row, join_below}
 use Rattle.runs.specs.Figures.{Time, no_time, longer, start_times, times, cost, at_offsets, published}
 use Rattle.runs.proofs.Cases.{split}
 use Rattle.runs.proofs.Joins.{row_same, longer_joins}
@@ -35,6 +35,12 @@ use Rattle.tight.proofs.Descents.{sized, wide_size}
 use Rattle.published.specs.Steps.{Ready as SetReady, Published}
 use Rattle.published.specs.declared.Outcome.{Outcome}
 use Rattle.figures.specs.Steps.{Started, StartedAt, StartedSet, Ended}
+use Rattle.image_bytes.specs.Bytes.{byte_at}
+use Rattle.rows.specs.Fields.{length_at, body_at}
+use Rattle.schedule.specs.Said.{said}
+use Rattle.exits.specs.Exits.{bits_of, Within}
+use Rattle.exits.proofs.Bits.{bits_row}
+use Rattle.figures.proofs.Listed.{bytes_length, bytes_number}
 use Rattle.figures.proofs.Bridge.{period_said, times_said, cost_said}
 
 entry : (z : Bool) → time_of (cond z 0 no_time) ≡ cond z (some 0) none
@@ -66,12 +72,12 @@ module _ (s : List ℕ) (w : Walk) (places : List ℕ) (ok : Walkable s w places
   single h = no_line w.outline.lines (omega (arith, ok.sound.accepting.sets))
 
   -- one row: the array of the starts is the table; and else its places are the first row
-  pub started_row : (t : List ℕ) → w.outline.sets ≤ 1 → Started s w.bus.period t → StartedAt s w t
+  pub started_row : (t : List ℕ) → w.outline.sets ≤ 1 → Started (starts_of s) w.bus.period t → StartedAt s w t
   started_row t h e =
       let m : power w.outline.lines ≤ 1 = omega (arith, ok.sound.accepting.sets) in
       start_table t (λ p l. let b : p < P = omega (arith, mul-le-mul_right P m) in low_start t p b (e p b))
 
-  pub started_rows : (start t : List ℕ) → Started s w.bus.period start → Put (replicate 1024 no_time) 0 w.bus.period start t → StartedAt s w t
+  pub started_rows : (start t : List ℕ) → Started (starts_of s) w.bus.period start → Put (replicate 1024 no_time) 0 w.bus.period start t → StartedAt s w t
   started_rows start t e u =
       start_table t
       (λ p l.
@@ -105,7 +111,7 @@ module _ (s : List ℕ) (w : Walk) (places : List ℕ) (ok : Walkable s w places
   some_set = rw ok.sound.accepting.sets (power_pos w.outline.lines)
 
   -- the rows that the walk starts from, and those that it leaves
-  module _ (start t : List ℕ) (e : Started s w.bus.period start) (u : Put (replicate 1024 no_time) 0 w.bus.period start t) where
+  module _ (start t : List ℕ) (e : Started (starts_of s) w.bus.period start) (u : Put (replicate 1024 no_time) 0 w.bus.period start t) where
     rows_long : size_of w ≤ length t
     rows_long = omega (arith, u.size, length-replicate 1024 no_time, wide_size s w places ok)
 
@@ -122,8 +128,31 @@ module _ (s : List ℕ) (w : Walk) (places : List ℕ) (ok : Walkable s w places
           omega (arith, mul-le-mul_right w.bus.period l);
     }
 
-  pub set_ready : (x : Set) → StartedSet s w.bus.period x → SetReady s w places w.outline.entry x
-  set_ready x e = record { walkable = ok; low = le_refl w.outline.entry; few = few; within = e.within }
+  -- the starts that are listed, each below the period
+  module _ (starts : List ℕ) (is : starts ≡ starts_of s) where
+    pub listed_times : (t : List ℕ) → Started starts 256 t → Started (starts_of s) w.bus.period t
+    listed_times t e o l = rw is at (e o (omega (arith, ok.fit.most)))
+
+    low : (j : ℕ) → j < length starts → get_or starts j 0 < w.bus.period
+    low j l =
+        let p = body_at s 1 in
+        let n = length_at s 1 in
+        let few : j < n = omega (arith, ap length is, bytes_length s p n) in
+        let below : byte_at s (p + j) < (said s).period = ok.sound.starts.low j (omega (arith, ok.sound.accepting.starts)) in
+        omega (arith, ap (λ (l : List ℕ). get_or l j 0) is, bytes_number s p n j few, period_said s w places ok)
+
+    pub set_within : (x : Set) → StartedSet starts x → Within w.bus.period x
+    set_within x e = e.within w.bus.period low
+
+    pub set_bits : (x : Set) → StartedSet starts x → bits_of w.bus.period x ≡ row w.bus.period (is_start (starts_of s))
+    set_bits x e = bits_row w.bus.period x (is_start (starts_of s)) (λ o l. e.members o ∙ ap (λ (l : List ℕ). is_start l o) is)
+
+  pub set_ready : (x : Set) → Within w.bus.period x → SetReady s w places w.outline.entry x
+  set_ready x within = record { walkable = ok; low = le_refl w.outline.entry; few = few; within = within }
+
+  pub cost_ended : (x : Set) (r : Outcome) → bits_of w.bus.period x ≡ row w.bus.period (is_start (starts_of s))
+      → Published w.bus (tree_at s w.outline.entry) x r → r.cost ≡ published (task_of s w.outline)
+  cost_ended x r bits h = h.costs ∙ ap (cost (bus_meant w.bus) (tree_at s w.outline.entry)) bits ∙ cost_said s w places ok
 
   -- the rows joined are the exit times
   pub times_ended : (t r q : List ℕ) → StartedAt s w t → Walked w (tree_at s w.outline.entry) t r → AtOffsets w.bus w.outline.lines r q → Ended s w.outline q
@@ -141,7 +170,3 @@ module _ (s : List ℕ) (w : Walk) (places : List ℕ) (ok : Walkable s w places
       (over_all w.bus 0 (period_pos w.bus ok.fit) r r
       (λ o l. let z : 0 * P + o ≡ o = omega arith in
       sym (ap (λ (v : Time). longer v (time_of (get_or r (0 * P + o) 0))) (over_none w.bus r o) ∙ longer_joins.left _ ∙ ap (λ (i : ℕ). time_of (get_or r i 0)) z)))
-
-  pub cost_ended : (x : Set) (r : Outcome) → StartedSet s w.bus.period x → Published w.bus (tree_at s w.outline.entry) x r
-      → r.cost ≡ published (task_of s w.outline)
-  cost_ended x r e h = h.costs ∙ ap (cost (bus_meant w.bus) (tree_at s w.outline.entry)) e.bits ∙ cost_said s w places ok

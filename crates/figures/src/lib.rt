@@ -8,161 +8,153 @@
 // These definitions are crate answers'; what a run, a wait and both methods are is in crates/runs/specs. specs/Steps.antt is between functions of this crate.
 #![tactic(auto)]
 
-ghost use Rattle.std.specs.Prelude.{◌≡◌, ◌++◌, ◌≤◌, take, drop, length};
+ghost use Rattle.std.specs.Prelude.{◌≡◌, ◌+◌, ◌≤◌, length};
 ghost use Rattle.runs.specs.Figures.{published};
-ghost use Rattle.image.specs.Tasks.{task_of};
-ghost use Rattle.rows.specs.Fields.{body_at};
+ghost use Rattle.image.specs.Tasks.{starts_of, task_of};
+ghost use Rattle.rows.specs.Fields.{length_at, body_at};
 ghost use Rattle.image.specs.Walks.{Walkable};
 ghost use Rattle.answers.specs.Promise.{Equal, Demand3, Demand2};
-ghost use Rattle.figures.specs.Steps.{Listing, Answerable, Answered, Started, StartedSet, Ended, Holding, holding};
+ghost use Rattle.figures.specs.Steps.{Answerable, Answered, Started, StartedSet, Ended, Holding, holding};
 
-use answers::{Answer, Totals};
-use image::{Outline, Verdict, Walk};
+use answers::Totals;
+use image::{Outline, Task, Walk};
 use offsets::Set;
-use refusals::Refusal;
+use refusals::{Refusal, Refused};
 
-// Where the start offsets stand: field 2 is behind field 1, wherever that ends.
-fn starts_at(image: &[u8]) -> usize
-    ensures { (result ≡ body_at image.now 1) × (result ≤ 65541) }
+// The start offsets, which field 2 lists: it is behind field 1, wherever that ends.
+fn listed_starts(image: &[u8], n: usize) -> &[u8]
+    requires { (n ≡ length_at image.now 1) × (body_at image.now 1 + n ≤ length image.now) }
+    ensures { result.now ≡ starts_of image.now }
 {
-    6 + image_bytes::word(image, 1)
+    let place = 6 + image_bytes::word(image, 1);
+    &image[place..place + n]
 }
 
-// The time 0 at each of the n listed starts, which are below the period.
-fn start_times(image: &[u8], place: usize, period: usize, n: usize) -> [u64; 256]
-    requires { Listing image.now place period n }
-    ensures { (length result ≡ 256) × Started image.now period result }
+// The time 0 at each of the starts, and none elsewhere.
+fn start_times(starts: &[u8]) -> [u64; 256]
+    ensures { (length result ≡ 256) × Started starts.now 256 result }
 {
-    let mut out = [18446744073709551615u64; 256];
-    let mut i = 0;
-    while i < n {
-        let o = image_bytes::byte(image, place + i);
-        out[o] = 0;
-        i += 1;
+    let mut out = [times::NO_TIME; 256];
+    for o in starts {
+        out[*o as usize] = 0;
     }
     out
 }
 
-// The set of the n listed starts.
-fn start_set(image: &[u8], place: usize, period: usize, n: usize) -> Set
-    requires { Listing image.now place period n }
-    ensures { StartedSet image.now period result }
+// The set of the starts.
+fn start_set(starts: &[u8]) -> Set
+    ensures { StartedSet starts.now result }
 {
     let mut out = offsets::empty();
-    let mut i = 0;
-    while i < n {
-        let o = image_bytes::byte(image, place + i);
-        out = offsets::join(out, offsets::single(o as u64));
-        i += 1;
+    for o in starts {
+        out = offsets::join(out, offsets::single(u64::from(*o)));
     }
     out
 }
 
 // The longest time at each exit offset.
-fn exit_times(image: &[u8], places: &[usize; 256], w: Walk) -> [u64; 256]
-    requires { Walkable image.now w places.now }
-    ensures { Ended image.now w.outline result }
+fn exit_times(task: &Task) -> [u64; 256]
+    requires { Walkable task.now.image.now task.now.walk task.now.places.now }
+    ensures { Ended task.now.image.now task.now.walk.outline result }
 {
-    let place = starts_at(image);
-    let mut t = start_times(image, place, w.bus.period, w.outline.starts);
-    if 1 < w.outline.sets {
-        return over_lines(image, places, w, &t);
+    let k = task.walk.outline;
+    let mut t = start_times(listed_starts(task.image, k.starts));
+    if 1 < k.sets {
+        return over_lines(task, &t);
     }
-    tight::walk(image, places, w, w.outline.entry, &mut t);
+    tight::walk(task, k.entry, &mut t);
     t
 }
 
 // The same where the image has lines: the starts have no line fetched, and at the end each offset has its longest time, whichever lines are.
-fn over_lines(image: &[u8], places: &[usize; 256], w: Walk, start: &[u64; 256]) -> [u64; 256]
-    requires { (Walkable image.now w places.now) × Started image.now w.bus.period start.now }
-    ensures { Ended image.now w.outline result }
+// The two begin and end the walk in other ways, not in the table's size alone, so one function over both sizes would be no plainer.
+fn over_lines(task: &Task, start: &[u64; 256]) -> [u64; 256]
+    requires { (Walkable task.now.image.now task.now.walk task.now.places.now) × Started (starts_of task.now.image.now) task.now.walk.bus.period start.now }
+    ensures { Ended task.now.image.now task.now.walk.outline result }
 {
-    let mut t = [18446744073709551615u64; 1024];
+    let w = task.walk;
+    let mut t = [times::NO_TIME; 1024];
     times::put(&mut t, 0, start, w.bus.period);
-    tight::walk(image, places, w, w.outline.entry, &mut t);
+    tight::walk(task, w.outline.entry, &mut t);
     lined::at_offsets(w.bus, w.outline.sets, &t)
 }
 
 // The published figure.
-fn published_cost(image: &[u8], places: &[usize; 256], w: Walk) -> u64
-    requires { Walkable image.now w places.now }
-    ensures { result ≡ published (task_of image.now w.outline) }
+fn published_cost(task: &Task) -> u64
+    requires { Walkable task.now.image.now task.now.walk task.now.places.now }
+    ensures { result ≡ published (task_of task.now.image.now task.now.walk.outline) }
 {
-    let place = starts_at(image);
-    let start = start_set(image, place, w.bus.period, w.outline.starts);
-    let all = published::walk(image, places, w, w.outline.entry, start);
+    let k = task.walk.outline;
+    let start = start_set(listed_starts(task.image, k.starts));
+    let all = published::walk(task, k.entry, start);
     all.cost
 }
 
 // The offsets below n whose place holds a time.
-fn exit_set(t: [u64; 256], n: usize) -> Set
+fn exit_set(t: &[u64; 256], n: usize) -> Set
     requires { n ≤ 256 }
-    ensures { Holding t n result }
+    ensures { Holding t.now n result }
 {
     let mut out = offsets::empty();
-    let mut o: usize = 0;
-    while o < n {
-        if t[o] != 18446744073709551615 {
+    for o in 0..n {
+        if t[o] != times::NO_TIME {
             out = offsets::join(out, offsets::single(o as u64));
         }
-        o += 1;
     }
     out
 }
 
-// How many places below n hold a time: ones counted over the set's words.
-fn exit_count(t: [u64; 256], n: usize) -> u64
+// How many places below n hold a time: ones counted over the set's words, as a rule of the project has it.
+fn exit_count(t: &[u64; 256], n: usize) -> u64
     requires { n ≤ 256 }
-    ensures { result ≡ holding t n }
+    ensures { result ≡ holding t.now n }
 {
     offsets::count(exit_set(t, n)) as u64
 }
 
-// The first n places of the table take those of t; later places keep their contents.
-pub fn fill(table: &mut [u64], t: &[u64], n: usize)
-    requires { (n ≤ length t.now) × (n ≤ length table.old) }
-    ensures { table.new ≡ take n t.now ++ drop n table.old }
-{
-    let mut o: usize = 0;
-    while o < n {
-        table[o] = t[o];
-        o += 1;
-    }
-}
-
 // The answer for an accepted image: 10, or the figures, worked out on the bus that the image says.
-fn given(image: &[u8], places: &[usize; 256], k: Outline, table: &mut [u64]) -> Answer
+fn given(
+    image: &[u8],
+    places: &[usize; 256],
+    k: Outline,
+    table: &mut [u64],
+) -> Result<Totals, Refused>
     requires { Answerable image.now k places.now }
     ensures { Answered image.now k table.old result table.new }
 {
     let period = k.period;
     if table.len() < period {
-        return Answer::Refused(Refusal::Table, image.len());
+        return Err(Refused {
+            refusal: Refusal::Table,
+            place: image.len(),
+        });
     }
-    let w = Walk {
+    let walk = Walk {
         bus: schedule::bus_at(image),
         outline: k,
     };
-    let times = exit_times(image, places, w);
-    fill(table, &times, period);
-    Answer::Given(Totals {
+    let task = Task {
+        image,
+        places,
+        walk,
+    };
+    let times = exit_times(&task);
+    table[..period].copy_from_slice(&times[..period]);
+    Ok(Totals {
         tight: times::longest(times, period),
-        published: published_cost(image, places, w),
-        exits: exit_count(times, period),
+        published: published_cost(&task),
+        exits: exit_count(&times, period),
     })
 }
 
 // Both figures, the exit count and the table of exit offsets of a task image; or the number under which it is refused.
-pub fn figures(image: &[u8], table: &mut [u64]) -> Answer
+pub fn figures(image: &[u8], table: &mut [u64]) -> Result<Totals, Refused>
     ensures equality { Equal image.now table.old result table.new }
     ensures demand3 { Demand3 image.now table.old result table.new }
     ensures demand2 { Demand2 image.now table.old result }
 {
     let j = image::judge(image);
     let places = j.places;
-    let verdict = j.verdict;
-    match verdict {
-        Verdict::Refused(r, place) => Answer::Refused(r, place),
-        Verdict::Accepted(k) => given(image, &places, k, table),
-    }
+    let k = j.verdict?;
+    given(image, &places, k, table)
 }

@@ -8,6 +8,8 @@ use borrow.Author.Tests.{eqb-true, eqb-false}
 use native.Mathlib.Numerals.{add-one}
 use native.Mathlib.Omega.{arith}
 use Prim.Native.Nat.{ℕ, ◌+◌, ◌≤◌, ◌<◌, max}
+use Rattle.std.specs.Prelude.{slice_range}
+use Rattle.std.proofs.lemmas.List.Edits.{length-between, get_or-between}
 use Rattle.runs.specs.Figures.{largest}
 use Rattle.runs.proofs.Cases.{split, either}
 use Rattle.runs.proofs.Largest.{largest_same}
@@ -24,6 +26,15 @@ pub record Filled (g : Graph) (i : ℕ) (ends last : List ℕ) : Type 0 where
 pub latest_more : (f : ℕ → ℕ) (k previous b r : ℕ) → b ≡ max (largest k f) previous → r ≡ max b (f k) → r ≡ max (largest (k + 1) f) previous
 unfolding largest
 latest_more f k previous b r e h = rw (add-one k) (omega arith)
+
+-- of the numbers that stand in a part of the table
+pub latest_is : (s ends : List ℕ) (at n previous r : ℕ) → at + n ≤ length s
+    → r ≡ max (largest (length (slice_range s at (at + n))) (λ k. get_or ends (get_or (slice_range s at (at + n)) k 0) 0)) previous
+    → r ≡ max (largest n (λ k. get_or ends (get_or s (at + k) 0) 0)) previous
+latest_is s ends at n previous r h e =
+    let long : length (slice_range s at (at + n)) ≡ n = omega (arith, length-between s at (at + n) h) in
+    e ∙ ap (λ (m : ℕ). max m previous)
+    (rw long (largest_same n _ _ (λ k l. ap (λ (x : ℕ). get_or ends x 0) (get_or-between s at (at + n) k 0 (omega arith)))))
 
 pub empty : (g : Graph) → Filled g 0 (replicate 64 0) (replicate 16 0)
 unfolding last_on

@@ -21,7 +21,7 @@ use Rattle.rows.specs.Fields.{length_at, body_at}
 use Rattle.image.specs.Judged.{judged}
 use Rattle.rows.specs.Rules.{Starts}
 use Rattle.image.specs.declared.Outline.{Outline}
-use Rattle.image.specs.declared.Verdict.TheVariants.{Accepted}
+use Rattle.std.specs.Prelude.{Ok}
 use Rattle.nodes.proofs.Lists.{is_listed_lem}
 use Rattle.image.proofs.Reasons.{when_accepted}
 use Rattle.image.proofs.Sounds.{accepted, starts_kept}
@@ -75,7 +75,7 @@ takes_most s k time q c d r =
     q.every c d r
 
 -- every figure of an accepted image may be a time
-pub time_permitted : (s lent : List ℕ) (k : Outline) (tight published exits : ℕ) → judged s ≡ Accepted k → answer s lent ≡ given tight published exits
+pub time_permitted : (s lent : List ℕ) (k : Outline) (tight published exits : ℕ) → judged s ≡ Ok k → answer s lent ≡ given tight published exits
     → (tight ≤ 6553500000) × (published ≤ 6553500000)
 time_permitted s lent k tight published exits e h = figures_most s lent k e tight published exits _ (sym (rw e at h)) refl
 
@@ -93,7 +93,7 @@ module _ (s : List ℕ) (P : ℕ) (h : Starts s (body_at s 1) P P) where
   start_is i l = omega (arith, no_lower i l, no_higher (P - i - 1) i (omega arith))
 
 -- how it is seen in the bytes: an accepted image with as many starts as its period has offsets lists every offset
-pub lists_every : (s : List ℕ) (k : Outline) → judged s ≡ Accepted k → length_at s 1 ≡ k.period → EveryOffset (task_of s k)
+pub lists_every : (s : List ℕ) (k : Outline) → judged s ≡ Ok k → length_at s 1 ≡ k.period → EveryOffset (task_of s k)
 lists_every s k e full o l =
     let a = when_accepted s k e in
     let many : k.starts ≡ k.period = a.starts ∙ full in

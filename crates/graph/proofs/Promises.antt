@@ -4,8 +4,7 @@ use mathlib.Core.List.{List}
 use lib.ListN.{get_or}
 use native.Mathlib.Omega.{arith}
 use Prim.Native.Nat.{ℕ, ◌+◌, ◌<◌}
-use Rattle.graph.specs.declared.Verdict.{Verdict}
-use Rattle.graph.specs.declared.Verdict.TheVariants.{Accepted, Refused}
+use Rattle.std.specs.Prelude.{Result, Ok, Err}
 use Rattle.graph.specs.declared.Answer.{Answer}
 use Rattle.graph.specs.Graph.{finish, InTime}
 use Rattle.graph.specs.Table.{graph_of, finished, result_by, finishes_of}
@@ -16,9 +15,9 @@ use Rattle.graph.proofs.Tables.{finish_at, answer_given}
 use Rattle.graph.proofs.OnTheBus.{in_time, some_ran}
 
 -- who gives finishes has accepted
-accepts : (v : Verdict) (f x : List ℕ) → result_by v f ≡ finished x → (v ≡ Accepted) × (f ≡ x)
-accepts Accepted f x e = (refl, cc)
-accepts (Refused place) f x e = absurd (let z : ◌≡◌ {A = ℕ} 0 1 = cc in omega arith)
+accepts : (v : Result (Unit {0}) ℕ) (f x : List ℕ) → result_by v f ≡ finished x → (v ≡ Ok tt) × (f ≡ x)
+accepts (Ok tt) f x e = (refl, cc)
+accepts (Err place) f x e = absurd (cc)
 
 module _ (s : List ℕ) where
   module _ (n : ℕ) (ok : AcceptedTable s n) (f : List ℕ) (same : (i : ℕ) → i < n → get_or f i 0 ≡ get_or (finishes_of s) i 0) where

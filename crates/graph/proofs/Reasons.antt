@@ -9,22 +9,21 @@ use Prim.Native.Nat.{ℕ, zero, suc, ◌<◌}
 use Rattle.runs.proofs.Cases.{split, either}
 use Rattle.graph.specs.Table.{graph_of, size_of, size_ok, permitted, or_else, first_not, refused_at, finished, result_by, answer_by}
 use Rattle.graph.specs.Conditions.{AcceptedTable, Condition, no_table, bad_entry}
-use Rattle.graph.specs.declared.Verdict.{Verdict}
-use Rattle.graph.specs.declared.Verdict.TheVariants.{Accepted, Refused}
+use Rattle.std.specs.Prelude.{Result, Ok, Err}
 use Rattle.graph.specs.declared.Answer.{Answer}
 use Rattle.graph.specs.Promise.{Equal, Because}
 use Rattle.graph.proofs.Tables.{permitted_is, is_permitted, first_some, size_says, size_is, size_ok_lem}
 
 different : {X : Type 0} {t : Bool} → t ≡ true → t ≡ false → X
-different a b = absurd (let z : ◌≡◌ {A = ℕ} 0 1 = cc in omega arith)
+different a b = absurd (cc)
 
 -- ---- what the first that is refused says of all before it
 
 module _ (f : ℕ → Bool) where
   -- one more number, after the first n gave v
   none_more : (n : ℕ) (v : Option ℕ) → or_else v (cond (f n) none (some n)) ≡ none → (v ≡ none) × (f n ≡ true)
-  none_more n (some i) e = absurd (let z : ◌≡◌ {A = ℕ} 0 1 = cc in omega arith)
-  none_more n none e = (refl, either (f n) (λ t. t) (λ t. absurd (let q : some n ≡ none = rw t at e in let z : ◌≡◌ {A = ℕ} 0 1 = cc in omega arith)))
+  none_more n (some i) e = absurd (cc)
+  none_more n none e = (refl, either (f n) (λ t. t) (λ t. absurd (let q : some n ≡ none = rw t at e in cc)))
 
   none_says : (n : ℕ) → first_not n f ≡ none → (i : ℕ) → i < n → f i ≡ true
   unfolding first_not
@@ -43,13 +42,13 @@ module _ (f : ℕ → Bool) where
   some_more n r (some i) is up e = let u = up e in record { below = omega (arith, u.below); before = u.before; there = u.there }
   some_more n r none is up e =
       either (f n)
-      (λ t. absurd (let q : none ≡ some r = rw t at e in let z : ◌≡◌ {A = ℕ} 0 1 = cc in omega arith))
+      (λ t. absurd (let q : none ≡ some r = rw t at e in cc))
       (λ t. let q : some n ≡ some r = rw t at e in let m : n ≡ r = cc in
       record { below = omega arith; before = λ i l. none_says n is i (omega arith); there = rw m at t })
 
   first_says : (n r : ℕ) → first_not n f ≡ some r → FirstNot n r
   unfolding first_not
-  first_says zero r e = absurd (let z : ◌≡◌ {A = ℕ} 0 1 = cc in omega arith)
+  first_says zero r e = absurd (cc)
   first_says (suc n) r e = some_more n r (first_not n f) refl (λ q. first_says n r q) e
 
 -- ---- refused at a place
@@ -82,19 +81,19 @@ module _ (s : List ℕ) where
         size = size_says s t;
         entries = λ i l. permitted_is i (graph_of s i) (none_says (λ i. permitted i (graph_of s i)) (size_of s) (rw t at e) i l);
       })
-      (λ t. absurd (let q : some 0 ≡ none = rw t at e in let z : ◌≡◌ {A = ℕ} 0 1 = cc in omega arith))
+      (λ t. absurd (let q : some 0 ≡ none = rw t at e in cc))
 
-  place_is : (v : Verdict) (f : List ℕ) (x : Option ℕ) (place : ℕ) → result_by v f ≡ answer_by s x → v ≡ Refused place → x ≡ some place
-  place_is v f none place e h = absurd (let q : result_by (Refused place) f ≡ answer_by s none = rw h at e in let z : ◌≡◌ {A = ℕ} 0 1 = cc in omega arith)
-  place_is v f (some i) place e h = let q : result_by (Refused place) f ≡ answer_by s (some i) = rw h at e in cc
+  place_is : (v : Result (Unit {0}) ℕ) (f : List ℕ) (x : Option ℕ) (place : ℕ) → result_by v f ≡ answer_by s x → v ≡ Err place → x ≡ some place
+  place_is v f none place e h = absurd (let q : result_by (Err place) f ≡ answer_by s none = rw h at e in cc)
+  place_is v f (some i) place e h = let q : result_by (Err place) f ≡ answer_by s (some i) = rw h at e in cc
 
-  verdict_is : (v : Verdict) (f : List ℕ) (x : Option ℕ) (place : ℕ) → result_by v f ≡ answer_by s x → x ≡ some place → v ≡ Refused place
-  verdict_is Accepted f x place e h = absurd (let q : finished f ≡ answer_by s (some place) = rw h at e in let z : ◌≡◌ {A = ℕ} 0 1 = cc in omega arith)
-  verdict_is (Refused i) f x place e h = let q : result_by (Refused i) f ≡ answer_by s (some place) = rw h at e in cc
+  verdict_is : (v : Result (Unit {0}) ℕ) (f : List ℕ) (x : Option ℕ) (place : ℕ) → result_by v f ≡ answer_by s x → x ≡ some place → v ≡ Err place
+  verdict_is (Ok u) f x place e h = absurd (let q : finished f ≡ answer_by s (some place) = rw h at e in cc)
+  verdict_is (Err i) f x place e h = let q : result_by (Err i) f ≡ answer_by s (some place) = rw h at e in cc
 
-  none_is : (v : Verdict) (f : List ℕ) (x : Option ℕ) → result_by v f ≡ answer_by s x → v ≡ Accepted → x ≡ none
+  none_is : (v : Result (Unit {0}) ℕ) (f : List ℕ) (x : Option ℕ) → result_by v f ≡ answer_by s x → v ≡ Ok tt → x ≡ none
   none_is v f none e h = refl
-  none_is v f (some i) e h = absurd (let q : finished f ≡ answer_by s (some i) = rw h at e in let z : ◌≡◌ {A = ℕ} 0 1 = cc in omega arith)
+  none_is v f (some i) e h = absurd (let q : finished f ≡ answer_by s (some i) = rw h at e in cc)
 
   pub reasons : (r : Answer) → Equal s r → Because s r
   reasons r e = record {

@@ -6,20 +6,22 @@ use mathlib.Core.List.{List}
 use lib.ListN.{length, get_or, replicate}
 use lib.Seq.{ext_get_or}
 use lib.Dec.{eqb, leb, ltb}
-use borrow.Author.Tests.{leb-true, lt-leb, le-leb, ltb-true, lt-ltb, le-ltb, eqb-true, eq-eqb, ne_eqb}
+use borrow.Author.Tests.{leb-true, lt-leb, le-leb, ltb-true, lt-ltb, le-ltb, eqb-true, eq-eqb}
 use native.Mathlib.Nat.{not-suc-le-zero}
-use native.Mathlib.Numerals.{add-one}
 use native.Mathlib.Omega.{arith}
 use Prim.Native.Nat.{ℕ, zero, suc, ◌+◌, ◌*◌, ◌≤◌, ◌<◌}
+use Rattle.std.specs.Prelude.{◌↔◌, IsTrue, EachIndex, slice_range}
+use Rattle.std.proofs.lemmas.Bool.{iff_false}
+use Rattle.std.proofs.lemmas.List.Edits.{length-between, get_or-between}
 use Rattle.runs.specs.Carried.{row}
-use Rattle.runs.proofs.Cases.{split}
+use Rattle.runs.proofs.Cases.{split, either}
 use Rattle.runs.proofs.Meanings.{row_at_lem}
 use Rattle.schedule.proofs.Numbers.{both}
 use Rattle.runs.proofs.Joins.{row_length}
 use Rattle.graph.specs.Graph.{Entry, Permitted, finish}
 use Rattle.graph.specs.Table.{graph_of, size_of, size_ok, all_below, permitted, first_not, refused_at, finished, refused, finishes_of, no_finishes, answer_by, answer}
 use Rattle.graph.specs.Conditions.{TableOf, AcceptedTable}
-use Rattle.graph.specs.Steps.{First}
+use Rattle.graph.specs.Steps.{IsFirst}
 
 and_false : (t : Bool) → (t && false) ≡ false
 and_false true = refl
@@ -28,18 +30,6 @@ and_false false = refl
 -- ---- earlier tasks
 
 module _ (w : ℕ → ℕ) (i : ℕ) where
-  pub below_more : (n : ℕ) → all_below n w i ≡ true → w n < i → all_below (n + 1) w i ≡ true
-  unfolding all_below
-  below_more n e l = rw (add-one n) (rw (e, lt-ltb (w n) i l))
-
-  pub below_not : (n k : ℕ) → k < n → i ≤ w k → all_below n w i ≡ false
-  unfolding all_below
-  below_not zero k l h = absurd (not-suc-le-zero l)
-  below_not (suc n) k l h =
-      split n k
-      (λ m. let e : n ≡ k = omega arith in rw (e, le-ltb (w k) i h) (and_false (all_below k w i)))
-      (λ m. rw (below_not n k m h))
-
   below_at : (n k : ℕ) → k < n → all_below n w i ≡ true → w k < i
   unfolding all_below
   below_at zero k l e = absurd (not-suc-le-zero l)
@@ -53,6 +43,19 @@ module _ (w : ℕ → ℕ) (i : ℕ) where
   unfolding all_below
   below_all zero h = refl
   below_all (suc n) h = rw (below_all n (λ k l. h k (omega arith)), lt-ltb (w n) i (h n (omega arith)))
+
+-- of the task numbers that stand in a part of the table
+pub earlier_is : (r : Bool) (s : List ℕ) (at n i : ℕ) → at + n ≤ length s
+    → (IsTrue r ↔ EachIndex (slice_range s at (at + n)) (λ k. get_or (slice_range s at (at + n)) k 0 < i))
+    → r ≡ all_below n (λ k. get_or s (at + k) 0) i
+earlier_is r s at n i h e =
+    let w : ℕ → ℕ = λ k. get_or s (at + k) 0 in
+    let long : length (slice_range s at (at + n)) ≡ n = omega (arith, length-between s at (at + n) h) in
+    either r
+    (λ t. t ∙ sym (below_all w i n (λ k l. omega (arith, get_or-between s at (at + n) k 0 (omega arith), e.0 t k (omega arith)))))
+    (λ t. t ∙ sym (either (all_below n w i)
+    (λ u. absurd (iff_false e t (λ k l. omega (arith, get_or-between s at (at + n) k 0 (omega arith), below_at w i n k (omega arith) u))))
+    (λ u. u)))
 
 -- ---- an entry
 
@@ -108,24 +111,16 @@ module _ (f : ℕ → Bool) where
 -- ---- the size
 
 module _ (s : List ℕ) where
-  pub too_many : 64 < size_of s → size_ok s ≡ false
-  unfolding size_ok
-  too_many h = rw (lt-leb (size_of s) 64 h) (and_false (leb 1 (size_of s)))
-
-  pub cut : (11 * size_of s ≡ length s → ⊥) → size_ok s ≡ false
-  unfolding size_ok
-  cut h = rw (ne_eqb (11 * size_of s) (length s) h, and_false (leb (size_of s) 64)) (and_false (leb 1 (size_of s)))
-
-  pub none_there : size_of s ≡ 0 → size_ok s ≡ false
-  unfolding size_ok
-  none_there h = rw (lt-leb 1 (size_of s) (omega arith))
-
   pub size_says : size_ok s ≡ true → TableOf s (size_of s)
   unfolding size_ok
   size_says e =
       let p = both (leb 1 (size_of s)) (leb (size_of s) 64 && eqb (11 * size_of s) (length s)) e in
       let q = both (leb (size_of s) 64) (eqb (11 * size_of s) (length s)) p.1 in
       record { least = leb-true _ _ p.0; most = omega (arith, leb-true (size_of s) 64 q.0); rows = sym (eqb-true _ _ q.1) }
+
+  -- no table has another size
+  pub no_size : (1 ≤ size_of s → size_of s ≤ 64 → length s ≡ 11 * size_of s → ⊥) → size_ok s ≡ false
+  no_size h = either (size_ok s) (λ t. let z = size_says t in absurd (h z.least z.most z.rows)) (λ t. t)
 
   module _ (n : ℕ) (t : TableOf s n) where
     pub size_is : size_of s ≡ n
@@ -150,20 +145,23 @@ module _ (s : List ℕ) where
   unfolding finishes_of
   finishes_length = row_length 64 place
 
-  pub size_refused : size_ok s ≡ false → refused 21 0 (replicate 64 0) ≡ answer s
+  pub refused_is : (place : ℕ) → refused_at s ≡ some place → refused 21 place (replicate 64 0) ≡ answer s
+  refused_is place e = ap (refused 21 place) zeros ∙ sym (ap (answer_by s) e)
+
+  pub size_refused : size_ok s ≡ false → refused_at s ≡ some 0
   unfolding refused_at
-  size_refused e = rw (e, zeros)
+  size_refused e = rw e refl
 
   module _ (n : ℕ) (size : TableOf s n) where
     pub at_size : refused_at s ≡ first_not n (λ i. permitted i (graph_of s i))
     unfolding refused_at
     at_size = rw (size_ok_lem s n size, size_is s n size)
 
-    pub entry_refused : (r : ℕ) → First s n r → r < n → refused 21 r (replicate 64 0) ≡ answer s
-    entry_refused r h l = ap (refused 21 r) zeros ∙ sym (ap (answer_by s) (at_size ∙ first_some _ n r l h.before (h.there l)))
+    pub entry_refused : (i : ℕ) → IsFirst s n i → refused_at s ≡ some i
+    entry_refused i h = at_size ∙ first_some _ n i h.below h.before h.there
 
-    pub all_permitted : (r : ℕ) → First s n r → n ≤ r → AcceptedTable s n
-    all_permitted r h l = record { size = size; entries = λ i m. permitted_is i (graph_of s i) (h.before i (omega arith)) }
+    pub all_permitted : ((i : ℕ) → i < n → permitted i (graph_of s i) ≡ true) → AcceptedTable s n
+    all_permitted h = record { size = size; entries = λ i m. permitted_is i (graph_of s i) (h i m) }
 
   module _ (n : ℕ) (ok : AcceptedTable s n) where
     pub answer_given : answer s ≡ finished (finishes_of s)

@@ -1,11 +1,10 @@
 -- Tasks of a graph that are images: runs begun at any cycle of the bus clock, and tight figures as times. Definitions only.
-use Rattle.std.specs.Prelude.{◌≡◌, true, List, ℕ, ◌+◌, ◌%◌, ◌≤◌, ◌<◌}
+use Rattle.std.specs.Prelude.{◌≡◌, true, List, ℕ, ◌+◌, ◌%◌, ◌≤◌, ◌<◌, Ok}
 use Rattle.runs.specs.Clock.{State, on}
 use Rattle.runs.specs.Runs.{Task, places_of, is_start, Does}
 use Rattle.image.specs.Tasks.{task_of}
 use Rattle.image.specs.Judged.{judged}
 use Rattle.image.specs.declared.Outline.{Outline}
-use Rattle.image.specs.declared.Verdict.TheVariants.{Accepted}
 use Rattle.answers.specs.Answers.{answer as figuresAnswer, given}
 use Rattle.graph.specs.Graph.{Graph, AsSoon}
 
@@ -23,7 +22,7 @@ pub record Takes (t : Task) (c d : ℕ) : Type 0 where
 -- an accepted image that lists every offset, and whose tight figure is at most the given time, whatever table was lent for it; k is what judging
 -- keeps of its bytes s
 pub record Quoted (s : List ℕ) (k : Outline) (time : ℕ) : Type 0 where
-  pub accepted : judged s ≡ Accepted k
+  pub accepted : judged s ≡ Ok k
   pub every : EveryOffset (task_of s k)
   pub lent : List ℕ
   pub tight : ℕ

@@ -1,7 +1,6 @@
 -- The three parts of the promise of `finishes`, over the lent table s and the answer. Definitions only.
-use Rattle.std.specs.Prelude.{◌≡◌, List, get_or, ℕ, ◌+◌, ◌≤◌, ◌<◌}
+use Rattle.std.specs.Prelude.{◌≡◌, List, get_or, ℕ, ◌+◌, ◌≤◌, ◌<◌, Ok, Err}
 use Rattle.image.specs.declared.Outline.{Outline}
-use Rattle.graph.specs.declared.Verdict.TheVariants.{Accepted, Refused}
 use Rattle.graph.specs.declared.Answer.{Answer}
 use Rattle.graph.specs.Graph.{Graph, latest, InTime, OnTime}
 use Rattle.graph.specs.Table.{graph_of, result_of, answer}
@@ -14,9 +13,9 @@ Equal s r = result_of r ≡ answer s
 
 -- 2, refused if and only if the condition for it holds, and accepted only where the size and every entry are permitted
 pub record Because (s : List ℕ) (r : Answer) : Type 0 where
-  pub because : (place : ℕ) → r.verdict ≡ Refused place → Condition s place
-  pub whenever : (place : ℕ) → Condition s place → r.verdict ≡ Refused place
-  pub accepted : r.verdict ≡ Accepted → (n : ℕ) × AcceptedTable s n
+  pub because : (place : ℕ) → r.verdict ≡ Err place → Condition s place
+  pub whenever : (place : ℕ) → Condition s place → r.verdict ≡ Err place
+  pub accepted : r.verdict ≡ Ok tt → (n : ℕ) × AcceptedTable s n
 
 -- task i starts by its finish less its time, and ends by its finish, f being the finishes
 pub record Meets (g : Graph) (f : List ℕ) (start end : ℕ → ℕ) (i : ℕ) : Type 0 where
@@ -41,4 +40,4 @@ pub record Finishing (s : List ℕ) (n : ℕ) (f : List ℕ) : Type 0 where
 
 -- 3, of an accepted table: it is answered, and with such numbers
 abbrev pub Waiting : List ℕ → Answer → Type 0
-Waiting s r = (n : ℕ) → AcceptedTable s n → (r.verdict ≡ Accepted) × Finishing s n r.finishes
+Waiting s r = (n : ℕ) → AcceptedTable s n → (r.verdict ≡ Ok tt) × Finishing s n r.finishes

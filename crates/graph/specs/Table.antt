@@ -2,12 +2,10 @@
 --
 -- An entry is a row of 11 numbers: core, time, how many tasks it waits for, and places for 8 task numbers, of which the first so many are
 -- read. A slice is a table of n tasks when it has n rows.
-use Rattle.std.specs.Prelude.{Bool, true, cond, ◌&&◌, List, length, get_or, eqb, leb, ltb, ℕ, zero, suc, ◌+◌, ◌*◌, ◌/◌}
+use Rattle.std.specs.Prelude.{Bool, true, cond, ◌&&◌, List, length, get_or, eqb, leb, ltb, ℕ, zero, suc, ◌+◌, ◌*◌, ◌/◌, Result as Outcome, Ok, Err}
 use Rattle.std.proofs.Math.Option.{Option, none, some}
 use Rattle.runs.specs.Carried.{row}
 use Rattle.graph.specs.Graph.{Entry, Graph, finish}
-use Rattle.graph.specs.declared.Verdict.{Verdict}
-use Rattle.graph.specs.declared.Verdict.TheVariants.{Accepted, Refused}
 use Rattle.graph.specs.declared.Answer.{Answer}
 
 -- the entries that the slice says
@@ -60,9 +58,9 @@ abbrev pub task_number : ℕ
 task_number = 21
 
 -- of what the program answers
-abbrev pub result_by : Verdict → List ℕ → Result
-result_by Accepted finishes = finished finishes
-result_by (Refused place) finishes = refused task_number place finishes
+abbrev pub result_by : Outcome (Unit {0}) ℕ → List ℕ → Result
+result_by (Ok accepted) finishes = finished finishes
+result_by (Err place) finishes = refused task_number place finishes
 
 abbrev pub result_of : Answer → Result
 result_of r = result_by r.verdict r.finishes

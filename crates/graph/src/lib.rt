@@ -10,54 +10,36 @@
 // itself, a 65th task, numbers past the table.
 #![tactic(auto)]
 
-ghost use Rattle.std.specs.Prelude.{◌≡◌, length, get_or, ℕ, ◌+◌, ◌≤◌, ◌<◌, max};
+ghost use Rattle.std.specs.Prelude.{◌≡◌, length, get_or, ◌+◌, ◌<◌, ◌↔◌, max, IsTrue, EachIndex};
 ghost use Rattle.runs.specs.Figures.{largest};
-ghost use Rattle.graph.specs.Table.{graph_of, permitted, all_below, finishes_of};
+ghost use Rattle.graph.specs.Table.{graph_of, permitted, finishes_of};
 ghost use Rattle.graph.specs.Conditions.{AcceptedTable};
 ghost use Rattle.graph.specs.Promise.{Equal, Because, Waiting};
-ghost use Rattle.graph.specs.Steps.{Rows, Sized, First};
+ghost use Rattle.graph.specs.Steps.{Rows, Sized, First, Judged};
 
-// Accepted, or refused under 21 at a place.
-#[derive(Clone, Copy)]
-pub enum Verdict {
-    Accepted,
-    Refused(usize),
-}
-
-// The verdict and 64 finishes: 0 past the table, and all 0 if it is refused.
+// Accepted, or the place at which the table is refused under 21; and 64 finishes: 0 past the table, and all 0 if it is refused.
 #[derive(Clone, Copy)]
 pub struct Answer {
-    pub verdict: Verdict,
+    pub verdict: Result<(), usize>,
     pub finishes: [u64; 64],
 }
 
-// The number of tasks in the table, or 0 if it is outside 1 to 64.
-fn size(table: &[u64]) -> usize
+// The number of tasks in the table, where it is 1 to 64.
+fn size(table: &[u64]) -> Option<usize>
     ensures { Sized table.now result }
 {
     let n = table.len() / 11;
-    if 64 < n {
-        return 0;
+    if n == 0 || n > 64 || 11 * n != table.len() {
+        return None;
     }
-    if 11 * n != table.len() {
-        return 0;
-    }
-    n
+    Some(n)
 }
 
-// Are the `count` task numbers from a place on each below i?
-fn all_earlier(table: &[u64], at: usize, count: u64, i: usize) -> bool
-    requires { (count ≤ 8) × (at + 8 ≤ length table.now) }
-    ensures { result ≡ all_below count (λ k. get_or table.now (at + k) 0) i }
+// Are all of the task numbers below i?
+fn all_earlier(waits: &[u64], i: usize) -> bool
+    ensures { IsTrue result ↔ EachIndex waits.now (λ k. get_or waits.now k 0 < i) }
 {
-    let mut k: usize = 0;
-    while (k as u64) < count {
-        if i as u64 <= table[at + k] {
-            return false;
-        }
-        k += 1;
-    }
-    true
+    waits.iter().all(|w| *w < i as u64)
 }
 
 // Are the numbers of entry i in range, and the tasks it waits for earlier?
@@ -76,37 +58,43 @@ fn entry_ok(table: &[u64], i: usize) -> bool
     if 8 < count {
         return false;
     }
-    all_earlier(table, at + 3, count, i)
+    all_earlier(&table[at + 3..at + 3 + count as usize], i)
 }
 
-// The first of n entries that is not permitted, or n.
-fn first_refused(table: &[u64], n: usize) -> usize
+// The first of n entries that is not permitted.
+fn first_refused(table: &[u64], n: usize) -> Option<usize>
     requires { Rows table.now n }
     ensures { First table.now n result }
 {
-    let mut i: usize = 0;
-    while i < n {
+    for i in 0..n {
         if !entry_ok(table, i) {
-            return i;
+            return Some(i);
         }
-        i += 1;
     }
-    n
+    None
 }
 
-// The latest of the ends of the `count` tasks whose numbers stand from a place on, and of `previous`.
-fn latest(table: &[u64], at: usize, count: u64, ends: &[u64; 64], previous: u64) -> u64
-    requires { (count ≤ 8) × (at + 8 ≤ length table.now) × ((k : ℕ) → k < count → get_or table.now (at + k) 0 < 64) }
-    ensures { result ≡ max (largest count (λ k. get_or ends.now (get_or table.now (at + k) 0) 0)) previous }
+// The number of tasks in the table, or the place at which it is refused.
+fn tasks(table: &[u64]) -> Result<usize, usize>
+    ensures { Judged table.now result }
+{
+    let Some(n) = size(table) else {
+        return Err(0);
+    };
+    match first_refused(table, n) {
+        Some(place) => Err(place),
+        None => Ok(n),
+    }
+}
+
+// The latest of the ends of the tasks with these numbers, and of `previous`.
+fn latest(waits: &[u64], ends: &[u64; 64], previous: u64) -> u64
+    requires { EachIndex waits.now (λ k. get_or waits.now k 0 < 64) }
+    ensures { result ≡ max (largest (length waits.now) (λ k. get_or ends.now (get_or waits.now k 0) 0)) previous }
 {
     let mut best = previous;
-    let mut k: usize = 0;
-    while (k as u64) < count {
-        let end = ends[table[at + k] as usize];
-        if best < end {
-            best = end;
-        }
-        k += 1;
+    for w in waits {
+        best = best.max(ends[*w as usize]);
     }
     best
 }
@@ -118,14 +106,13 @@ fn ends_of(table: &[u64], n: usize) -> [u64; 64]
 {
     let mut ends = [0u64; 64];
     let mut last = [0u64; 16];
-    let mut i: usize = 0;
-    while i < n {
+    for i in 0..n {
         let at = 11 * i;
         let core = table[at] as usize;
-        let end = table[at + 1] + latest(table, at + 3, table[at + 2], &ends, last[core]);
+        let waits = &table[at + 3..at + 3 + table[at + 2] as usize];
+        let end = table[at + 1] + latest(waits, &ends, last[core]);
         ends[i] = end;
         last[core] = end;
-        i += 1;
     }
     ends
 }
@@ -136,24 +123,14 @@ pub fn finishes(table: &[u64]) -> Answer
     ensures reason { Because table.now result }
     ensures waiting { Waiting table.now result }
 {
-    let none = [0u64; 64];
-    let n = size(table);
-    if n == 0 {
-        return Answer {
-            verdict: Verdict::Refused(0),
-            finishes: none,
-        };
-    }
-    let place = first_refused(table, n);
-    if place < n {
-        return Answer {
-            verdict: Verdict::Refused(place),
-            finishes: none,
-        };
-    }
-    let found = ends_of(table, n);
-    Answer {
-        verdict: Verdict::Accepted,
-        finishes: found,
+    match tasks(table) {
+        Ok(n) => Answer {
+            verdict: Ok(()),
+            finishes: ends_of(table, n),
+        },
+        Err(place) => Answer {
+            verdict: Err(place),
+            finishes: [0; 64],
+        },
     }
 }

@@ -27,7 +27,7 @@ use Rattle.image.specs.Judged.{judged}
 use Rattle.image.specs.Conditions.{Complete, Ending, last, named, Accepting}
 use Rattle.image.specs.Closed.{entry_field, EndsInANode}
 use Rattle.image.specs.declared.Outline.{Outline}
-use Rattle.image.specs.declared.Verdict.TheVariants.{Accepted}
+use Rattle.std.specs.Prelude.{Ok}
 use Rattle.image.proofs.Reasons.{accepted_when}
 use Rattle.image.proofs.Sounds.{stand, entry_below}
 
@@ -145,5 +145,5 @@ module _ (s : List ℕ) (k : Outline) (a : Accepting s k) (none : EndsInANode s 
     narrow = a.narrow;
   }
 
-  pub still_accepted : judged e ≡ Accepted k
+  pub still_accepted : judged e ≡ Ok k
   still_accepted = accepted_when e k accepting

@@ -15,8 +15,10 @@ use Rattle.rows.proofs.Rules.{tested}
 use Rattle.rows.proofs.Standing.{next_at, unclosed_below, unclosed_all}
 use Rattle.image.specs.Conditions.{Complete, Ending, last, named, Condition, no_node}
 use Rattle.image.specs.Judged.{end_of, scan}
-use Rattle.image.specs.declared.fields.End.{End}
-use Rattle.image.specs.declared.fields.End.TheVariants.{Stopped, Whole}
+use Rattle.std.specs.Prelude.{Result, Ok, Err}
+use Rattle.refusals.specs.declared.Refused.{Refused}
+use Rattle.image.specs.declared.fields.Nodes.{Nodes}
+use Rattle.image.specs.Judged.{holding}
 use Rattle.image.proofs.Passing.{ends}
 
 module _ (s : List ℕ) where
@@ -50,7 +52,7 @@ module _ (s : List ℕ) where
         let q : field_at s (n + 3) ≡ field_at s (suc (n + 2)) = ap (field_at s) (omega arith) in
         omega (arith, c.ends, q, next_at s (n + 2), two_bytes (n + 2) (c.passed (n + 2) (omega arith)) t)
 
-    pub whole_scan : Ending s n entry → scan s ≡ Whole n entry
+    pub whole_scan : Ending s n entry → scan s ≡ Ok (holding n entry)
     unfolding end_of
     whole_scan (last c ne e) =
         let x : n + 2 - 2 ≡ n = omega arith in
@@ -65,9 +67,9 @@ module _ (s : List ℕ) where
 
   -- ---- what the end of a scan says: the condition of a row of the table, or how the image ends
 
-  abbrev pub EndSays : End → Type 0
-  EndSays (Stopped r place) = Condition s r place
-  EndSays (Whole n entry) = Ending s n entry
+  abbrev pub EndSays : Result Nodes Refused → Type 0
+  EndSays (Err e) = Condition s e.refusal e.place
+  EndSays (Ok n) = Ending s n.count n.entry
 
   pub end_says : (n : ℕ) → Complete s n → EndSays (end_of s n (closed_at s n))
   unfolding end_of
@@ -86,5 +88,5 @@ module _ (s : List ℕ) where
       last (subst (Complete s) y c) (subst (λ (j : ℕ). tag_at s j ≡ 8 → ⊥) x (eqb-false (tag_at s k) 8 t)) (omega arith)))
 
 -- ends with the same nodes and entry
-pub same_nodes : (m a n b : ℕ) → Whole m a ≡ Whole n b → m ≡ n
-same_nodes m a n b e = cc
+pub same_nodes : (m n : Nodes) → ◌≡◌ {A = Result Nodes Refused} (Ok m) (Ok n) → m.count ≡ n.count
+same_nodes m n e = cc

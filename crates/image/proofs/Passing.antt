@@ -13,13 +13,13 @@ use Rattle.image.specs.Judged.{field_of, end_of, scan_from, scan}
 use Rattle.rows.specs.Fields.{field_at, length_at, closed_at, GoodField, Passed}
 use Rattle.image.specs.Conditions.{Complete}
 use Rattle.refusals.specs.declared.Refusal.{Refusal}
-use Rattle.image.specs.declared.fields.Judgement.TheVariants.{Good, Bad}
-use Rattle.image.specs.declared.fields.End.TheVariants.{Stopped}
+use Rattle.std.specs.Prelude.{Ok, Err}
+use Rattle.refusals.specs.Refusals.{refused_at}
 use Rattle.rows.proofs.Rules.{tested}
 use Rattle.rows.proofs.Standing.{next_at, first_at, few, fewer}
 
 module _ (s : List ℕ) where
-  pub good_is : (k : ℕ) → GoodField s k → field_of s (field_at s k) k (closed_at s k) ≡ Good (field_at s (suc k))
+  pub good_is : (k : ℕ) → GoodField s k → field_of s (field_at s k) k (closed_at s k) ≡ Ok (field_at s (suc k))
   unfolding field_of
   good_is k g =
       let t = tested s k g in
@@ -40,12 +40,12 @@ module _ (s : List ℕ) where
     more : 260 - index ≡ suc (260 - (index + 1))
     more = omega arith
 
-    pub on_good : (next : ℕ) → at < length s → field_of s at index closed ≡ Good next
+    pub on_good : (next : ℕ) → at < length s → field_of s at index closed ≡ Ok next
         → scan_from (260 - index) s at index closed ≡ scan_from (260 - (index + 1)) s next (index + 1) (eqb (byte_at s at) 8)
     unfolding scan_from
     on_good next h e = rw (more, lt-leb (length s) at h, e)
 
-    pub on_bad : (r : Refusal) → at < length s → field_of s at index closed ≡ Bad r → scan_from (260 - index) s at index closed ≡ Stopped r at
+    pub on_bad : (r : Refusal) → at < length s → field_of s at index closed ≡ Err r → scan_from (260 - index) s at index closed ≡ Err (refused_at r at)
     unfolding scan_from
     on_bad r h e = rw (more, lt-leb (length s) at h, e)
 
@@ -63,7 +63,7 @@ module _ (s : List ℕ) where
       sym (rw (add-one n) at (on_good (field_at s n) n (closed_at s n) (omega (arith, few s (suc n) p)) (field_at s (suc n)) (omega (arith, t.head)) (good_is n g)))
       ∙ rest n (fewer s n (suc n) (omega arith) p)
 
-  pub stops : (k : ℕ) (r : Refusal) → Passed s k → field_at s k < length s → field_of s (field_at s k) k (closed_at s k) ≡ Bad r → scan s ≡ Stopped r (field_at s k)
+  pub stops : (k : ℕ) (r : Refusal) → Passed s k → field_at s k < length s → field_of s (field_at s k) k (closed_at s k) ≡ Err r → scan s ≡ Err (refused_at r (field_at s k))
   stops k r p l e = sym (rest k p) ∙ on_bad (field_at s k) k (closed_at s k) (few s k p) r l e
 
   pub ends : (n : ℕ) → Complete s n → scan s ≡ end_of s n (closed_at s n)

@@ -19,11 +19,11 @@ use Rattle.nodes.specs.Nodes.{lines_of, tree_at}
 use Rattle.image.specs.Conditions.{Complete, Ending, Condition, head_cut, wrong_tag, one_more, wrong_length, body_cut, wrong_value, not_below, no_entry, no_node, too_deep, too_long, too_wide, Accepting}
 use Rattle.refusals.specs.declared.Refusal.{Refusal}
 use Rattle.refusals.specs.declared.Refusal.TheVariants.{Cut, Tag, Full, Length, Value, Forward, Unfinished, Deep, Long, Entry, Lines, Table, Register, Busy, Forbidden, Block}
-use Rattle.image.specs.declared.fields.Judgement.TheVariants.{Bad}
-use Rattle.image.specs.declared.fields.End.TheVariants.{Whole}
+use Rattle.std.specs.Prelude.{Result, Ok, Err}
+use Rattle.refusals.specs.declared.Refused.{Refused}
+use Rattle.refusals.specs.Refusals.{refused_at}
+use Rattle.image.specs.declared.fields.Nodes.{Nodes}
 use Rattle.image.specs.declared.Outline.{Outline}
-use Rattle.image.specs.declared.Verdict.{Verdict}
-use Rattle.image.specs.declared.Verdict.TheVariants.{Accepted, Refused}
 use Rattle.rows.proofs.Rules.{refused, tag_here, room_here, length_here, value_here, child_here, entry_here}
 use Rattle.rows.specs.Rules.{EntryRule}
 use Rattle.rows.specs.Tests.{children_ok}
@@ -33,7 +33,7 @@ use Rattle.image.proofs.Endings.{whole_scan, EndSays}
 use Rattle.image.proofs.Says.{VerdictSays, says, scan_says}
 
 module _ (s : List ℕ) where
-  stopped : (k : ℕ) (r : Refusal) → Passed s k → field_at s k < length s → field_of s (field_at s k) k (closed_at s k) ≡ Bad r → judged s ≡ Refused r (field_at s k)
+  stopped : (k : ℕ) (r : Refusal) → Passed s k → field_at s k < length s → field_of s (field_at s k) k (closed_at s k) ≡ Err r → judged s ≡ Err (refused_at r (field_at s k))
   unfolding judged
   stopped k r p l e = rw (stops s k r p l e)
 
@@ -41,7 +41,7 @@ module _ (s : List ℕ) where
   unfolding judged
   whole n entry h = rw (whole_scan s n entry h)
 
-  unfinished : (n : ℕ) → Complete s n → n < 3 → judged s ≡ Refused Unfinished (length s)
+  unfinished : (n : ℕ) → Complete s n → n < 3 → judged s ≡ Err (refused_at Unfinished (length s))
   unfolding judged end_of
   unfinished n c h = rw (ends s n c, lt-ltb n 3 h)
 
@@ -57,7 +57,7 @@ module _ (s : List ℕ) where
   unfolding children_ok
   childless k e = ⊎_elim (λ t. rw t) (λ ne. absurd (e (λ t. absurd (ne t)))) (eq_or_ne (tag_at s k) 8)
 
-  pub refused_when : (r : Refusal) (place : ℕ) → Condition s r place → judged s ≡ Refused r place
+  pub refused_when : (r : Refusal) (place : ℕ) → Condition s r place → judged s ≡ Err (refused_at r place)
   unfolding field_of whole_of
   refused_when Table place c = elim c [ ]
   refused_when Register place c = elim c [ ]
@@ -92,17 +92,17 @@ module _ (s : List ℕ) where
         lt-ltb 1024 ((said s).period * power (lines_of s n)) w,
       )
 
-  pub when_refused : (r : Refusal) (place : ℕ) → judged s ≡ Refused r place → Condition s r place
+  pub when_refused : (r : Refusal) (place : ℕ) → judged s ≡ Err (refused_at r place) → Condition s r place
   when_refused r place e = subst (VerdictSays s) e (says s)
 
-  pub when_accepted : (t : Outline) → judged s ≡ Accepted t → Accepting s t
+  pub when_accepted : (t : Outline) → judged s ≡ Ok t → Accepting s t
   when_accepted t e = subst (VerdictSays s) e (says s)
 
   -- a whole scan ends with the image: its fuel never runs out
-  pub whole_ends : (n entry : ℕ) → scan s ≡ Whole n entry → Ending s n entry
-  whole_ends n entry e = subst (EndSays s) e (scan_says s)
+  pub whole_ends : (n : Nodes) → scan s ≡ Ok n → Ending s n.count n.entry
+  whole_ends n e = subst (EndSays s) e (scan_says s)
 
-  pub accepted_when : (t : Outline) → Accepting s t → judged s ≡ Accepted t
+  pub accepted_when : (t : Outline) → Accepting s t → judged s ≡ Ok t
   unfolding whole_of
   accepted_when t a =
       whole t.nodes t.entry a.ending
@@ -117,7 +117,7 @@ module _ (s : List ℕ) where
       )
 
   -- judging answers the first nine of the list, 11 and 18
-  pub own_numbers : (r : Refusal) (place : ℕ) → judged s ≡ Refused r place → (number_of r ≤ 9) ⊎ ((number_of r ≡ 11) ⊎ (number_of r ≡ 18))
+  pub own_numbers : (r : Refusal) (place : ℕ) → judged s ≡ Err (refused_at r place) → (number_of r ≤ 9) ⊎ ((number_of r ≡ 11) ⊎ (number_of r ≡ 18))
   own_numbers r place e = own (when_refused r place e)
     where
       own : {r' : Refusal} {place' : ℕ} → Condition s r' place' → (number_of r' ≤ 9) ⊎ ((number_of r' ≡ 11) ⊎ (number_of r' ≡ 18))
@@ -135,12 +135,12 @@ module _ (s : List ℕ) where
       own (too_wide n e c h v w) = inr (inr refl)
 
   -- "The first that holds is returned; an image is accepted when none holds."
-  pub accepted_if_none : ((r : Refusal) (place : ℕ) → Condition s r place → ⊥) → (t : Outline) × (judged s ≡ Accepted t)
+  pub accepted_if_none : ((r : Refusal) (place : ℕ) → Condition s r place → ⊥) → (t : Outline) × (judged s ≡ Ok t)
   accepted_if_none free = by_verdict (judged s) refl
     where
-      by_verdict : (v : Verdict) → judged s ≡ v → (t : Outline) × (judged s ≡ Accepted t)
-      by_verdict (Accepted t) e = (t, e)
-      by_verdict (Refused r place) e = absurd (free r place (when_refused r place e))
+      by_verdict : (v : Result Outline Refused) → judged s ≡ v → (t : Outline) × (judged s ≡ Ok t)
+      by_verdict (Ok t) e = (t, e)
+      by_verdict (Err x) e = absurd (free x.refusal x.place (when_refused x.refusal x.place e))
 
-  pub none_if_accepted : (t : Outline) → judged s ≡ Accepted t → (r : Refusal) (place : ℕ) → Condition s r place → ⊥
+  pub none_if_accepted : (t : Outline) → judged s ≡ Ok t → (r : Refusal) (place : ℕ) → Condition s r place → ⊥
   none_if_accepted t e r place c = let f = refused_when r place c in let z : ◌≡◌ {A = ℕ} 0 1 = cc in omega arith

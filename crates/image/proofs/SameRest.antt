@@ -19,8 +19,8 @@ use Rattle.image.specs.Judged.{judged}
 use Rattle.image.specs.Moved.{moved}
 use Rattle.refusals.specs.declared.Refusal.{Refusal}
 use Rattle.image.specs.declared.Outline.{Outline}
-use Rattle.image.specs.declared.Verdict.{Verdict}
-use Rattle.image.specs.declared.Verdict.TheVariants.{Accepted, Refused}
+use Rattle.std.specs.Prelude.{Result, Ok, Err}
+use Rattle.refusals.specs.declared.Refused.{Refused}
 use Rattle.rows.proofs.Rules.{carries, value_here, child_here, entry_here}
 use Rattle.rows.proofs.Kept.{good_head, good_tag, good_length, good_body, good_value, good_room, first_open}
 use Rattle.rows.proofs.Standing.{next_at, first_at}
@@ -228,6 +228,6 @@ module _ (a c rest : List ℕ) (d : ℕ) (h : Instead a c rest d) where
   pub judged_moved : judged e ≡ moved d (judged s)
   judged_moved = by_verdict (judged s) refl
     where
-      by_verdict : (v : Verdict) → judged s ≡ v → judged e ≡ moved d v
-      by_verdict (Accepted t) q = accepted_when e t (accepting_moved t (when_accepted s t q))
-      by_verdict (Refused r place) q = refused_when e r (place + d) (condition_moved r place (when_refused s r place q))
+      by_verdict : (v : Result Outline Refused) → judged s ≡ v → judged e ≡ moved d v
+      by_verdict (Ok t) q = accepted_when e t (accepting_moved t (when_accepted s t q))
+      by_verdict (Err x) q = refused_when e x.refusal (x.place + d) (condition_moved x.refusal x.place (when_refused s x.refusal x.place q))

@@ -17,9 +17,11 @@ use Rattle.image.specs.Judged.{field_of, end_of}
 use Rattle.rows.specs.Fields.{field_at, tag_at, body_at, closed_at, GoodField, Passed}
 use Rattle.image.specs.Inner.{PlacedAll, Scanned}
 use Rattle.refusals.specs.declared.Refusal.{Refusal}
-use Rattle.image.specs.declared.fields.Judgement.TheVariants.{Good, Bad}
-use Rattle.image.specs.declared.fields.End.{End}
-use Rattle.image.specs.declared.fields.End.TheVariants.{Stopped, Whole}
+use Rattle.std.specs.Prelude.{Result, Ok, Err}
+use Rattle.refusals.specs.declared.Refused.{Refused}
+use Rattle.refusals.specs.Refusals.{refused_at}
+use Rattle.image.specs.declared.fields.Nodes.{Nodes}
+use Rattle.image.specs.Judged.{holding}
 use Rattle.rows.proofs.Kept.{good_tag, good_room, node_room, later_tag}
 use Rattle.rows.proofs.Standing.{next_at, first_at, inside, passed_more}
 use Rattle.image.proofs.Endings.{two_bytes, same_nodes}
@@ -66,12 +68,12 @@ more_placed s places n at p few e =
     }
 
 module _ (s places : List ℕ) (index at : ℕ) (closed : Bool) (h : Here s places index at closed) where
-  pub here_good : (next : ℕ) → at < length s → field_of s at index closed ≡ Good next → GoodField s index × (next ≡ field_at s (suc index))
+  pub here_good : (next : ℕ) → at < length s → field_of s at index closed ≡ Ok next → GoodField s index × (next ≡ field_at s (suc index))
   here_good next l e =
       subst (FieldSays s index) (rw (h.place, h.last) at e) (field_says s index h.passed (rw h.place at l))
 
   -- the field there is good
-  module _ (next : ℕ) (l : at < length s) (e : field_of s at index closed ≡ Good next) where
+  module _ (next : ℕ) (l : at < length s) (e : field_of s at index closed ≡ Ok next) where
     good : GoodField s index
     good = (here_good next l e).0
 
@@ -117,11 +119,11 @@ module _ (s places : List ℕ) (index at : ℕ) (closed : Bool) (h : Here s plac
       here_front q m = next_here places (index - 2) (rw q (omega arith)) stored
 
   -- where the scan stops, and at the image's end
-  pub here_stopped : (r : Refusal) → at < length s → field_of s at index closed ≡ Bad r → Scanned s (Stopped r at) places
+  pub here_stopped : (r : Refusal) → at < length s → field_of s at index closed ≡ Err r → Scanned s (Err (refused_at r at)) places
   here_stopped r l e =
       record {
         is = rw h.place (sym (stops s index r h.passed (rw h.place at l) (rw (h.place, h.last) at e)));
-        placed = λ n x q. absurd (let z : ◌≡◌ {A = ℕ} 0 1 = cc in omega arith);
+        placed = λ n q. absurd (let z : ◌≡◌ {A = ℕ} 0 1 = cc in omega arith);
       }
 
   -- at the image's end a field that has closed it is its last five bytes
@@ -135,17 +137,17 @@ module _ (s places : List ℕ) (index at : ℕ) (closed : Bool) (h : Here s plac
           rw z (omega (arith, e, next_at s k, two_bytes s k (p k (omega arith)) (eqb-true (tag_at s k) 8 c)))
 
   -- the end has as many nodes as are stored
-  as_many : (c : Bool) (n x : ℕ) → end_of s index c ≡ Whole n x → nodes_of index c ≡ n
+  as_many : (c : Bool) (n : Nodes) → end_of s index c ≡ Ok n → nodes_of index c ≡ n.count
   unfolding end_of
-  as_many c n x e = either (ltb index 3) (λ t. absurd (let f = rw t at e in let z : ◌≡◌ {A = ℕ} 0 1 = cc in omega arith)) (λ t. by c (rw t at e))
+  as_many c n e = either (ltb index 3) (λ t. absurd (let f = rw t at e in let z : ◌≡◌ {A = ℕ} 0 1 = cc in omega arith)) (λ t. by c (rw t at e))
     where
-      by : (c : Bool) → cond c (Whole (index - 3) (word_at s (body_at s (index - 1)))) (Whole (index - 2) (index - 3)) ≡ Whole n x → nodes_of index c ≡ n
-      by true q = same_nodes _ _ n x q
-      by false q = same_nodes _ _ n x q
+      by : (c : Bool) → cond {A = Result Nodes Refused} c (Ok (holding (index - 3) (word_at s (body_at s (index - 1))))) (Ok (holding (index - 2) (index - 3))) ≡ Ok n → nodes_of index c ≡ n.count
+      by true q = same_nodes _ n q
+      by false q = same_nodes _ n q
 
-  pub here_whole : length s ≤ at → (r : End) → r ≡ end_of s index closed → Scanned s r places
+  pub here_whole : length s ≤ at → (r : Result Nodes Refused) → r ≡ end_of s index closed → Scanned s r places
   here_whole l r e =
       record {
         is = e ∙ ap (end_of s index) h.last ∙ sym (ends s index (record { passed = h.passed; ends = omega (arith, h.place, inside s index h.passed) }));
-        placed = λ n x q. subst (λ (m : ℕ). PlacedAll s m places) (as_many closed n x (sym e ∙ q)) h.placed;
+        placed = λ n q. subst (λ (m : ℕ). PlacedAll s m places) (as_many closed n (sym e ∙ q)) h.placed;
       }

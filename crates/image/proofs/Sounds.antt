@@ -24,7 +24,7 @@ use Rattle.image.specs.Walks.{Sound}
 use Rattle.nodes.specs.declared.Node.{Node}
 use Rattle.nodes.specs.declared.Node.TheVariants.{Plain, Bus as Block, Once, Sequence, Branch, Loop}
 use Rattle.image.specs.declared.Outline.{Outline}
-use Rattle.image.specs.declared.Verdict.TheVariants.{Accepted}
+use Rattle.std.specs.Prelude.{Ok}
 use Rattle.nodes.proofs.Lists.{words_some, is_listed_lem}
 use Rattle.rows.proofs.Standing.{inside, unclosed_few, unclosed_fewer, unclosed_passed}
 use Rattle.nodes.proofs.Kept.{node_fine}
@@ -92,7 +92,7 @@ first : (s : List ℕ) (n : ℕ) → n ≡ length_at s 1 → 1 ≤ n → Starts 
 first s n e some u = (byte_at s (body_at s 1 + 0), u.low 0 (omega arith), is_listed_lem s (body_at s 1) (length_at s 1) 0 (omega arith))
 
 -- the task that an accepted image says is one of the theorem's
-pub accepted : (s : List ℕ) (t : Outline) → judged s ≡ Accepted t → ValidTask (task_of s t)
+pub accepted : (s : List ℕ) (t : Outline) → judged s ≡ Ok t → ValidTask (task_of s t)
 accepted s t e =
     let a = when_accepted s t e in
     let r = ranged_kept s t a in
@@ -111,7 +111,7 @@ pub standing : (s : List ℕ) (t : Outline) (places : List ℕ) → Sound s t pl
 standing s t places h k l = record { passed = unclosed_fewer s (k + 3) (t.nodes + 2) (omega arith) (stand s t h.accepting); place = h.placed k l }
 
 -- of an image of no lines the published exit set has exactly the offsets at which runs end
-pub unlined_exits : (s : List ℕ) (t : Outline) → judged s ≡ Accepted t → t.lines ≡ 0
+pub unlined_exits : (s : List ℕ) (t : Outline) → judged s ≡ Ok t → t.lines ≡ 0
     → (o : ℕ) → o < (task_of s t).bus.period → get_or (exit_set (task_of s t)) o false ≡ held (get_or (exit_times (task_of s t)) o none)
 unlined_exits s t e z =
     let a = when_accepted s t e in

@@ -12,7 +12,7 @@ use Rattle.rows.specs.Tests.{tag_ok, room_ok, node_length_ok, length_ok, starts_
 use Rattle.image.specs.Judged.{field_of, end_of, scan_from, scan, whole_of, judged, refused, numbered}
 use Rattle.rows.specs.Fields.{field_at}
 use Rattle.nodes.specs.Nodes.{node_from, meant, node_at}
-use Rattle.image.specs.declared.Verdict.TheVariants.{Accepted}
+use Rattle.std.specs.Prelude.{Ok}
 
 -- "An empty image gives 7 at place 0"; one byte is a cut head.
 empty : numbered [] ≡ refused 7 "unfinished" 0
@@ -28,7 +28,7 @@ abbrev front : List ℕ
 front = 1 ∷ 0 ∷ 3 ∷ 2 ∷ 5 ∷ 0 ∷ 2 ∷ 0 ∷ 2 ∷ 3 ∷ 5 ∷ 4 ∷ 0 ∷ 3 ∷ 2 ∷ 2 ∷ 2 ∷ []
 
 twice : judged (front ++ 5 ∷ 0 ∷ 4 ∷ 0 ∷ 0 ∷ 0 ∷ 0 ∷ [])
-    ≡ Accepted (record { period = 10; starts = 2; lines = 0; sets = 1; nodes = 2; entry = 1 })
+    ≡ Ok (record { period = 10; starts = 2; lines = 0; sets = 1; nodes = 2; entry = 1 })
 unfolding word_at words tag_ok room_ok node_length_ok length_ok bus_ok starts_ok plain_ok access_ok block_ok once_ok loop_ok node_value_ok value_ok below children_ok entry_ok field_of said equal_slots field_at node_from meant node_at trees tree_by tree_to tree depth visits power lines_to end_of scan_from scan whole_of judged
 twice = refl
 
@@ -54,7 +54,7 @@ loop high low body test = 7 ∷ 0 ∷ 8 ∷ 0 ∷ 0 ∷ high ∷ low ∷ 0 ∷ b
 abbrev loops : ℕ → List ℕ
 loops n = front ++ loop 39 16 0 0 ++ loop 0 n 1 0
 
-four_times : judged (loops 4) ≡ Accepted (record { period = 10; starts = 2; lines = 0; sets = 1; nodes = 3; entry = 2 })
+four_times : judged (loops 4) ≡ Ok (record { period = 10; starts = 2; lines = 0; sets = 1; nodes = 3; entry = 2 })
 unfolding word_at words tag_ok room_ok node_length_ok length_ok bus_ok starts_ok plain_ok access_ok block_ok once_ok loop_ok node_value_ok value_ok below children_ok entry_ok field_of said equal_slots field_at node_from meant node_at trees tree_by tree_to tree depth visits power lines_to end_of scan_from scan whole_of judged
 four_times = refl
 
@@ -63,7 +63,7 @@ unfolding word_at words tag_ok room_ok node_length_ok length_ok bus_ok starts_ok
 five_times = refl
 
 -- a body of 100,017 visits that is never executed costs nothing, but a test is executed once
-never : judged (loops 5 ++ loop 0 0 2 0) ≡ Accepted (record { period = 10; starts = 2; lines = 0; sets = 1; nodes = 4; entry = 3 })
+never : judged (loops 5 ++ loop 0 0 2 0) ≡ Ok (record { period = 10; starts = 2; lines = 0; sets = 1; nodes = 4; entry = 3 })
 unfolding word_at words tag_ok room_ok node_length_ok length_ok bus_ok starts_ok plain_ok access_ok block_ok once_ok loop_ok node_value_ok value_ok below children_ok entry_ok field_of said equal_slots field_at node_from meant node_at trees tree_by tree_to tree depth visits power lines_to end_of scan_from scan whole_of judged
 never = refl
 
@@ -92,7 +92,7 @@ own_test = refl
 abbrev naming : ℕ → List ℕ
 naming n = 8 ∷ 0 ∷ 2 ∷ 0 ∷ n ∷ []
 
-inner : judged (loops 5 ++ naming 1) ≡ Accepted (record { period = 10; starts = 2; lines = 0; sets = 1; nodes = 3; entry = 1 })
+inner : judged (loops 5 ++ naming 1) ≡ Ok (record { period = 10; starts = 2; lines = 0; sets = 1; nodes = 3; entry = 1 })
 unfolding word_at words tag_ok room_ok node_length_ok length_ok bus_ok starts_ok plain_ok access_ok block_ok once_ok loop_ok node_value_ok value_ok below children_ok entry_ok field_of said equal_slots field_at node_from meant node_at trees tree_by tree_to tree depth visits power lines_to end_of scan_from scan whole_of judged
 inner = refl
 
@@ -114,7 +114,7 @@ early = refl
 
 -- W9: a block with line 1 gives two lines, so four sets; with line 2 a period of 256 gives 256 × 8 places, which is 18.
 fetched : judged (front ++ 10 ∷ 0 ∷ 5 ∷ 1 ∷ 2 ∷ 3 ∷ 0 ∷ 9 ∷ [])
-    ≡ Accepted (record { period = 10; starts = 2; lines = 2; sets = 4; nodes = 2; entry = 1 })
+    ≡ Ok (record { period = 10; starts = 2; lines = 2; sets = 4; nodes = 2; entry = 1 })
 unfolding word_at words tag_ok room_ok node_length_ok length_ok bus_ok starts_ok plain_ok access_ok block_ok once_ok loop_ok node_value_ok value_ok below children_ok entry_ok field_of said equal_slots field_at node_from meant node_at trees tree_by tree_to tree depth visits power lines_to end_of scan_from scan whole_of judged
 fetched = refl
 
@@ -126,7 +126,7 @@ eighteen = refl
 abbrev round : ℕ → List ℕ
 round e = 9 ∷ 0 ∷ 11 ∷ 0 ∷ 0 ∷ 2 ∷ 1 ∷ 3 ∷ 0 ∷ 2 ∷ 1 ∷ 2 ∷ 0 ∷ 1 ∷ 2 ∷ 0 ∷ 1 ∷ 9 ∷ 4 ∷ 0 ∷ 3 ∷ 2 ∷ e ∷ e ∷ []
 
-three : judged (round 3) ≡ Accepted (record { period = 10; starts = 1; lines = 0; sets = 1; nodes = 1; entry = 0 })
+three : judged (round 3) ≡ Ok (record { period = 10; starts = 1; lines = 0; sets = 1; nodes = 1; entry = 0 })
 unfolding word_at words tag_ok room_ok node_length_ok length_ok turns_at turns_ok has_pair schedule_ok total owns any last_of owns_next owning starts_ok access_ok block_ok node_value_ok value_ok below children_ok entry_ok field_of said field_at node_from meant node_at trees tree_by tree_to tree depth visits power lines_to end_of scan_from scan whole_of judged
 three = refl
 

@@ -1,9 +1,10 @@
 -- A verdict on an image that has d bytes more before what was judged. Definitions only.
-use Rattle.std.specs.Prelude.{ℕ, ◌+◌}
-use Rattle.image.specs.declared.Verdict.{Verdict}
-use Rattle.image.specs.declared.Verdict.TheVariants.{Accepted, Refused}
+use Rattle.std.specs.Prelude.{ℕ, ◌+◌, Result, Ok, Err}
+use Rattle.refusals.specs.declared.Refused.{Refused}
+use Rattle.refusals.specs.Refusals.{refused_at}
+use Rattle.image.specs.declared.Outline.{Outline}
 
 -- the same task, or the same refusal d bytes further on
-abbrev pub moved : ℕ → Verdict → Verdict
-moved d (Accepted t) = Accepted t
-moved d (Refused r place) = Refused r (place + d)
+abbrev pub moved : ℕ → Result Outline Refused → Result Outline Refused
+moved d (Ok t) = Ok t
+moved d (Err e) = Err (refused_at e.refusal (e.place + d))

@@ -9,24 +9,26 @@
 // verdict), Conditions (the table, row by row), Promise; Moved and Closed are for laws about two images, Walks is for the layers above, and Inner between
 // functions of this crate. The rows' rules are in crate rows, what a node field means
 // to crate `runs` in crate nodes, field 1's rules in crate schedule.
-// src/: fields (one field, and the scan), and the verdict here.
+// src/: fields (one field, and the scan), task (what the walks of an accepted image go by), and the outline and the verdict here.
 #![tactic(auto)]
 
 ghost use Rattle.std.specs.Prelude.{◌≡◌};
-ghost use Rattle.image.specs.Judged.{whole_of};
-ghost use Rattle.image.specs.Conditions.{Ending};
+ghost use Rattle.image.specs.Judged.{judged};
+ghost use Rattle.image.specs.Inner.{Scanned};
 ghost use Rattle.image.specs.Promise.{Judging};
-ghost use Rattle.nodes.specs.Fine.{Placed};
 
-use crate::fields::{End, fields};
+use crate::fields::{Scan, fields};
 use bus::Bus;
 use image_bytes::word;
 use nodes::fetched::{lines, power};
 use nodes::weigh::weights;
-use refusals::Refusal;
+use refusals::{Refusal, Refused};
 use schedule::period_at;
 
 mod fields;
+mod task;
+
+pub use crate::task::Task;
 
 // The outline of an accepted image: the period of the bus, the number of start offsets in field 2, the number of lines and of sets of
 // lines, the number of nodes, and the entry.
@@ -47,44 +49,50 @@ pub struct Walk {
     pub outline: Outline,
 }
 
-#[derive(Clone, Copy)]
-pub enum Verdict {
-    Accepted(Outline),
-    Refused(Refusal, usize),
-}
-
 // The verdict, and of an accepted image the place of each node's field.
 #[derive(Clone, Copy)]
 pub struct Judged {
-    pub verdict: Verdict,
+    pub verdict: Result<Outline, Refused>,
+    // room for the most nodes, and beside it how many there are: there is no heap
     pub places: [usize; 256],
 }
 
-// The verdict on an image whose fields are good and fill it, of so many nodes and with this entry: 8, 9, 18, or accepted.
-fn whole(image: &[u8], places: &[usize; 256], nodes: usize, entry: usize) -> Verdict
-    requires { (Ending image.now nodes entry) × (Placed image.now nodes places.now) }
-    ensures { result ≡ whole_of image.now nodes entry }
+// The verdict on an image whose fields are scanned: where they are good and fill it, 8, 9, 18, or accepted.
+#[tactic(auto, unfolding(crate::specs::Judged::judged, crate::specs::Judged::whole_of))]
+fn whole(image: &[u8], scan: &Scan) -> Result<Outline, Refused>
+    requires { Scanned image.now scan.now.end scan.now.places }
+    ensures { result ≡ judged image.now }
 {
-    let w = weights(image, places, entry);
+    let n = scan.end?;
+    let w = weights(image, &scan.places, n.entry);
     if 24 < w.depth {
-        return Verdict::Refused(Refusal::Deep, image.len());
+        return Err(Refused {
+            refusal: Refusal::Deep,
+            place: image.len(),
+        });
     }
     if 100000 < w.visits {
-        return Verdict::Refused(Refusal::Long, image.len());
+        return Err(Refused {
+            refusal: Refusal::Long,
+            place: image.len(),
+        });
     }
     let period = period_at(image);
-    let lines = lines(image, places, nodes);
+    let lines = lines(image, &scan.places, n.count);
     let sets = power(lines);
     if 1024 < period * sets {
-        return Verdict::Refused(Refusal::Lines, image.len());
+        return Err(Refused {
+            refusal: Refusal::Lines,
+            place: image.len(),
+        });
     }
-    Verdict::Accepted(Outline {
+    Ok(Outline {
         period,
         starts: word(image, 4 + word(image, 1)),
         lines,
         sets,
-        nodes,
-        entry,
+        nodes: n.count,
+        entry: n.entry,
     })
 }
 
@@ -93,16 +101,8 @@ pub fn judge(image: &[u8]) -> Judged
     ensures { Judging image.now result.verdict result.places }
 {
     let scan = fields(image);
-    let places = scan.places;
-    let end = scan.end;
-    match end {
-        End::Stopped(r, at) => Judged {
-            verdict: Verdict::Refused(r, at),
-            places,
-        },
-        End::Whole(nodes, entry) => Judged {
-            verdict: whole(image, &places, nodes, entry),
-            places,
-        },
+    Judged {
+        verdict: whole(image, &scan),
+        places: scan.places,
     }
 }

@@ -11,13 +11,11 @@ ghost use Rattle.image_bytes.specs.Bytes.{byte_at, word_at};
 pub fn byte(image: &[u8], at: usize) -> usize
     ensures { (result ≡ byte_at image.now at) × (result < 256) }
 {
-    if at < image.len() {
-        return image[at] as usize;
-    }
-    0
+    image.get(at).map_or(0, |b| usize::from(*b))
 }
 
-// The number of two bytes at a place, the high byte first.
+// The number of two bytes at a place, the high byte first. (`from_be_bytes` would be no plainer: either byte may be past the end.)
+#[tactic(auto, unfolding(crate::specs::Bytes::word_at))]
 pub fn word(image: &[u8], at: usize) -> usize
     requires { at < 18446744073709551615 }
     ensures { (result ≡ word_at image.now at) × (result < 65536) }

@@ -1,63 +1,55 @@
--- Laws of specs/Reading: the input after a read, by the machine's tests of the answer, and that what is held grows within the buffer.
-use mathlib.Core.Path.{◌≡◌, refl, sym, subst}
+-- Laws of specs/Reading: the input after a read, by what it answered, and that what is held grows within the buffer.
+use mathlib.Core.Path.{◌≡◌, refl, sym}
 use mathlib.Core.Bool.{Bool, true, false, cond}
 use mathlib.Core.List.{List}
 use Prim.Native.Nat.{ℕ, zero, suc, ◌+◌, ◌-◌, ◌≤◌, ◌<◌}
 use native.Mathlib.Nat.{not-suc-le-zero}
 use native.Mathlib.Omega.{arith}
-use lib.Dec.{T, ltb, ltb→lt}
-use lib.IntN.{ℤ, pos, negsuc, nat_abs}
+use lib.Dec.{ltb}
 use lib.ListN.{length}
 use lib.Seq.{length-take-le}
-use lib.Signed.{lt_z, non_neg}
 use borrow.Author.Tests.{ltb-true}
-use Rattle.input.specs.Reading.{Moved, full_or_open, after_read, Held}
-use Rattle.input.specs.declared.Input.{Input}
-use Rattle.input.specs.declared.Input.TheVariants.{Open, Whole, Failed}
+use Rattle.std.specs.Prelude.{Result, Ok, Err, IfOk}
+use Rattle.std.specs.declared.ops.ControlFlow.{ControlFlow}
+use Rattle.std.specs.declared.ops.ControlFlow.TheVariants.{Continue, Break}
+use Rattle.input.specs.Reading.{full_or_open, after_read, Held}
 
--- an answer that is not below 0
-pub not_negative : (z : ℤ) → lt_z z (pos 0) ≡ false → T (non_neg z)
-not_negative (pos k) h = tt
-not_negative (negsuc k) h = subst T h tt
+-- how many bytes are there, whether more may come or not
+abbrev pub bytes_of : ControlFlow ℕ ℕ → ℕ
+bytes_of (Continue n) = n
+bytes_of (Break n) = n
 
--- an answer within the room is no more than that
-pub moved : (room : ℕ) (z : ℤ) → T (non_neg z) → Moved room z → nat_abs z ≤ room
-moved room (pos k) h m = m
-moved room (negsuc k) h m = absurd h
-
-module _ (done size : ℕ) where
-  -- an answer below 0
-  pub failed : (z : ℤ) → lt_z z (pos 0) ≡ true → Failed ≡ after_read done z size
-  failed (pos k) h = absurd (not-suc-le-zero (ltb→lt k 0 (subst T (sym h) tt)))
-  failed (negsuc k) h = refl
+module _ (E : Type 0) (done size : ℕ) where
+  -- an error
+  pub failed : (e : E) → ◌≡◌ {A = Result (ControlFlow ℕ ℕ) E} (Err e) (after_read done (Err e) size)
+  failed e = refl
 
   -- an answer of 0
-  pub ended : (z : ℤ) → z ≡ pos 0 → Whole done ≡ after_read done z size
-  ended z e = subst (λ (v : ℤ). Whole done ≡ after_read done v size) (sym e) refl
+  pub ended : (r : Result ℕ E) → r ≡ Ok 0 → Ok (Break done) ≡ after_read done r size
+  ended r e = rw e refl
 
   -- an answer that is neither
-  pub came : (z : ℤ) → T (non_neg z) → ¬ (z ≡ pos 0) → full_or_open (done + nat_abs z) size ≡ after_read done z size
-  came (pos zero) h n = absurd (n refl)
-  came (pos (suc k)) h n = refl
-  came (negsuc k) h n = absurd h
+  pub came : (n : ℕ) → 0 < n → ◌≡◌ {A = Result (ControlFlow ℕ ℕ) E} (Ok (full_or_open (done + n) size)) (after_read done (Ok n) size)
+  came zero h = absurd (not-suc-le-zero h)
+  came (suc k) h = refl
 
-  -- an input that is still open has grown and has room; a whole one is within the buffer
-  abbrev pub Grows : Input → Type 0
-  Grows (Open n) = (done < n) × (n < size)
-  Grows (Whole n) = n ≤ size
-  Grows Failed = Unit {0}
+  -- an input of which more may come has grown and has room; one that is over is within the buffer
+  abbrev pub Grows : Result (ControlFlow ℕ ℕ) E → Type 0
+  Grows (Ok (Continue n)) = (done < n) × (n < size)
+  Grows (Ok (Break n)) = n ≤ size
+  Grows (Err e) = Unit {0}
 
-  grows_filled : (there : ℕ) (full : Bool) → ltb there size ≡ full → done < there → there ≤ size → Grows (cond full (Open there) (Whole there))
+  grows_filled : (there : ℕ) (full : Bool) → ltb there size ≡ full → done < there → there ≤ size → Grows (Ok (cond full (Continue there) (Break there)))
   grows_filled there true e h k = (h, ltb-true there size e)
   grows_filled there false e h k = k
 
-  pub grows : (z : ℤ) → done ≤ size → Moved (size - done) z → Grows (after_read done z size)
-  grows (pos zero) h m = h
-  grows (pos (suc k)) h m = grows_filled (done + suc k) (ltb (done + suc k) size) refl (omega arith) (omega (arith, m))
-  grows (negsuc k) h m = tt
+  pub grows : (r : Result ℕ E) → done ≤ size → IfOk r (λ n. n ≤ size - done) → Grows (after_read done r size)
+  grows (Err e) h m = tt
+  grows (Ok zero) h m = h
+  grows (Ok (suc k)) h m = grows_filled (done + suc k) (ltb (done + suc k) size) refl (omega arith) (omega (arith, m))
 
   -- and so no more is read than the buffer has
-  pub held : (i : Input) (buffer : List ℕ) → length buffer ≡ size → Grows i → Held i buffer
-  held (Open n) buffer e g = (omega (arith, e, g), sym (length-take-le n buffer (omega (arith, e, g))))
-  held (Whole n) buffer e g = (omega (arith, e, g), sym (length-take-le n buffer (omega (arith, e, g))))
-  held Failed buffer e g = tt
+  pub held : (r : Result (ControlFlow ℕ ℕ) E) (buffer : List ℕ) → length buffer ≡ size → Grows r → IfOk r (λ c. let n : Result ℕ E = Ok (bytes_of c) in Held n buffer)
+  held (Ok (Continue n)) buffer e g = (omega (arith, e, g), sym (length-take-le n buffer (omega (arith, e, g))))
+  held (Ok (Break n)) buffer e g = (omega (arith, e, g), sym (length-take-le n buffer (omega (arith, e, g))))
+  held (Err x) buffer e g = tt

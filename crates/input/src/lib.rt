@@ -5,60 +5,45 @@
 // them. What standard input gives is trusted.
 #![tactic(auto)]
 
-ghost use Rattle.std.specs.Prelude.{◌≡◌, ◌≤◌, ◌-◌, length};
-ghost use Rattle.input.specs.Reading.{Moved, Came, after_read, Held, Filled};
+ghost use Rattle.std.specs.Prelude.{◌≡◌, ◌≤◌, ◌-◌, IfOk, length};
+ghost use Rattle.input.specs.Reading.{after_read, Held, Filled};
 
+use std::io;
 use std::io::Read;
+use std::ops::ControlFlow;
 
-// How far the input is read: so many bytes of it, and more may come; all of it, or as much as the buffer holds; or a read failed.
-#[derive(Clone, Copy)]
-pub enum Input {
-    Open(usize),
-    Whole(usize),
-    Failed,
-}
-
-// The input after a read that answered `got`, behind the `done` bytes that were there, into a buffer of `size`.
-fn after_read(done: usize, got: isize, size: usize) -> Input
-    requires { (done ≤ size) × Moved (size - done) got }
+// What a read that answered `got` makes of the input, behind the `done` bytes that were there, into a buffer of `size`: so many bytes are
+// there, and more may come (`Continue`) or that is all of it, or all that the buffer holds (`Break`); or the read failed.
+fn after_read(
+    done: usize,
+    got: io::Result<usize>,
+    size: usize,
+) -> io::Result<ControlFlow<usize, usize>>
+    requires { (done ≤ size) × IfOk got (λ n. n ≤ size - done) }
     ensures { result ≡ after_read done got size }
 {
-    if got < 0 {
-        return Input::Failed;
+    let n = got?;
+    if n == 0 {
+        return Ok(ControlFlow::Break(done));
     }
-    if got == 0 {
-        return Input::Whole(done);
-    }
-    let there = done + got as usize;
+    let there = done + n;
     if there < size {
-        return Input::Open(there);
+        return Ok(ControlFlow::Continue(there));
     }
-    Input::Whole(there)
+    Ok(ControlFlow::Break(there))
 }
 
-// What a read into the room answers: how many bytes came, or -1 where it failed.
-fn read_some<R: Read>(reader: &mut R, room: &mut [u8]) -> isize
-    ensures moved { Moved (length room.new) result }
-    ensures bytes { Came (R.remaining reader.old) (R.remaining reader.new) result room.new }
-{
-    match reader.read(room) {
-        Ok(n) => n as isize,
-        Err(_) => -1,
-    }
-}
-
-// Reads until the input has ended, a read has failed or the buffer is full.
-pub fn read_input<R: Read>(reader: &mut R, buffer: &mut [u8]) -> Input
+// Reads until the input has ended or the buffer is full, and answers how many bytes that is, or that a read failed.
+pub fn read_input<R: Read>(reader: &mut R, buffer: &mut [u8]) -> io::Result<usize>
     ensures within { Held result buffer.new }
     ensures bytes { Filled (R.remaining reader.old) (R.remaining reader.new) result buffer.new }
 {
     let mut done = 0;
     loop {
-        let got = read_some(reader, &mut buffer[done..]);
-        let input = after_read(done, got, buffer.len());
-        let Input::Open(n) = input else {
-            return input;
-        };
-        done = n;
+        let got = reader.read(&mut buffer[done..]);
+        match after_read(done, got, buffer.len())? {
+            ControlFlow::Continue(n) => done = n,
+            ControlFlow::Break(n) => return Ok(n),
+        }
     }
 }

@@ -1,10 +1,10 @@
 -- What happens between the iterations of a loop, over tables of n places. Definitions only.
-use Rattle.std.specs.Prelude.{◌≡◌, List, length, get_or, ℕ, ◌*◌, ◌≤◌, ◌<◌}
+use Rattle.std.specs.Prelude.{◌≡◌, Bool, true, List, length, get_or, ℕ, ◌*◌, ◌≤◌, ◌<◌}
 use Rattle.std.proofs.Math.Option.{none}
 use Rattle.runs.specs.Figures.{Time, longer}
 use Rattle.runs.specs.Parts.{Begun, Turned, shifted}
 use Rattle.times.specs.Arrays.{table_of, Shifted}
-use Rattle.cycles.specs.Cycles.{Counts, Skips, Watches}
+use Rattle.cycles.specs.Cycles.{gain_of, Counts, Skips, Watches}
 use Rattle.cycles.specs.declared.Watch.{Watch}
 
 -- an array that holds no time at its first n places
@@ -29,10 +29,9 @@ pub record WatchedBy (n : ℕ) (cur old : List ℕ) (w : Watch) (old' : List ℕ
 -- m whole cycles of `left` iterations are skipped
 pub record SkippedBy (n left : ℕ) (w : Watch) (cur cur' : List ℕ) (r : Watch) : Type 0 where
   pub size : length cur' ≡ length cur
-  pub skips : (m : ℕ) × Skips left w m r × Shifted n cur (m * w.gain) cur'
+  pub skips : (m : ℕ) × Skips left w m r × Shifted n cur (m * gain_of w.search) cur'
 
--- what is kept before the first iteration: what stands then, or nothing where the span is 0
-pub record KeptBy (n : ℕ) (t old old' : List ℕ) (span : ℕ) : Type 0 where
+-- what is kept before the first iteration: what stands then, or nothing
+pub record KeptBy (n : ℕ) (t old old' : List ℕ) (keeps : Bool) : Type 0 where
   pub size : length old' ≡ length old
-  pub few : span ≤ 1
-  pub kept : 1 ≤ span → table_of n old' ≡ table_of n t
+  pub kept : keeps ≡ true → table_of n old' ≡ table_of n t

@@ -11,7 +11,7 @@ ghost use Rattle.times.specs.Arrays.{Fits};
 ghost use Rattle.cycles.specs.Cycles.{Small};
 ghost use Rattle.iterations.specs.Iterations.{Empty, BegunBy, TurnedBy, WatchedBy, SkippedBy, KeptBy};
 
-use cycles::Watch;
+use cycles::{Search, Watch};
 
 // The exits before the first iteration: what stands then, behind the first test, where 0 is a permitted count, and else none.
 pub fn before_first(n: usize, least: usize, t: &[u64], out: &mut [u64])
@@ -23,16 +23,16 @@ pub fn before_first(n: usize, least: usize, t: &[u64], out: &mut [u64])
     }
 }
 
-// What is kept before the first iteration, and for how many: what stands then, for one, but where at most one iteration is to come nothing is kept.
-pub fn kept(n: usize, greatest: usize, t: &[u64], old: &mut [u64]) -> usize
+// What is kept before the first iteration, and whether anything is: what stands then, but where at most one iteration is to come nothing is kept.
+pub fn kept(n: usize, greatest: usize, t: &[u64], old: &mut [u64]) -> bool
     requires { (n ≤ length t.now) × (n ≤ length old.old) }
     ensures { KeptBy n t.now old.old old.new result }
 {
     if greatest <= 1 {
-        return 0;
+        return false;
     }
     times::copy(old, t, n);
-    1
+    true
 }
 
 // The exits after one more iteration, which left the times `next`.
@@ -50,16 +50,18 @@ pub fn watched(n: usize, cur: &[u64], old: &mut [u64], w: Watch) -> Watch
     requires { (n ≤ length cur.now) × (n ≤ length old.old) × (w.done ≤ 9999) × Small w }
     ensures { WatchedBy n cur.now old.old w old.new result }
 {
-    if w.span == 0 {
-        return cycles::seen(w, false, 0);
+    match w.search {
+        Search::On(_) => {
+            let gain = times::rise(old, cur, n);
+            let same = times::is_later(old, cur, n, gain);
+            let r = cycles::seen(w, same, gain);
+            if r.is_due() {
+                times::copy(old, cur, n);
+            }
+            r
+        }
+        _ => cycles::seen(w, false, 0),
     }
-    let gain = times::rise(old, cur, n);
-    let same = times::is_later(old, cur, n, gain);
-    let r = cycles::seen(w, same, gain);
-    if r.gap == 0 {
-        times::copy(old, cur, n);
-    }
-    r
 }
 
 // Of the `left` iterations to come whole cycles are skipped; what is left then is only walked.
@@ -67,13 +69,18 @@ pub fn skipped(n: usize, left: usize, w: Watch, cur: &mut [u64]) -> Watch
     requires { (n ≤ length cur.old) × (w.done + left ≤ 10000) × Small w × Fits n cur.old }
     ensures { SkippedBy n left w cur.old cur.new result }
 {
-    let jumps = cycles::jumps(w.cycle, left);
-    times::all_later(cur, n, jumps * w.gain);
-    Watch {
-        done: w.done + jumps * w.cycle,
-        gap: 0,
-        span: 0,
-        cycle: 0,
-        gain: 0,
+    match w.search {
+        Search::Found(c) => {
+            let jumps = cycles::jumps(c.length, left);
+            times::all_later(cur, n, jumps * c.gain);
+            Watch {
+                done: w.done + jumps * c.length,
+                search: Search::Off,
+            }
+        }
+        _ => Watch {
+            done: w.done,
+            search: Search::Off,
+        },
     }
 }

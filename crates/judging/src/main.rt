@@ -5,37 +5,25 @@
 
 ghost use Rattle.std.specs.Prelude.{◌≤◌, length};
 
-use image::{Verdict, judge};
+use image::judge;
 use image_bytes::word;
-use refusals::number;
 use std::io::{Read, Write};
 
-// Writes the line of one image.
+// Writes the line of one image. A write that fails is not told: the lines are compared with those that are expected.
 fn tell<W: Write>(case: u64, image: &[u8], output: &mut W) {
-    put_number(case, output);
-    let verdict = judge(image).verdict;
-    match verdict {
-        Verdict::Accepted(_) => put(b" accepted\n", output),
-        Verdict::Refused(refusal, place) => {
-            put(b" refused ", output);
-            put_number(number(refusal) as u64, output);
-            put(b" ", output);
-            put_number(place as u64, output);
-            put(b"\n", output);
-        }
-    }
+    let _ = match judge(image).verdict {
+        Ok(_) => writeln!(output, "{case} accepted"),
+        Err(e) => writeln!(
+            output,
+            "{case} refused {} {}",
+            u64::from(e.refusal),
+            e.place
+        ),
+    };
 }
 
-// A write that fails is not told: the lines are compared with those that are expected.
-fn put<W: Write>(bytes: &[u8], output: &mut W) {
-    let _ = output.write_all(bytes);
-}
-
-fn put_number<W: Write>(n: u64, output: &mut W) {
-    let _ = write!(output, "{n}");
-}
-
-// Reads until the buffer is full, the input ends or a read fails, and answers how many bytes of it were read.
+// Reads until the buffer is full, the input ends or a read fails, and answers how many bytes of it were read: `read_exact` does not tell that, and
+// `read_to_end` needs a heap.
 fn read_full<R: Read>(reader: &mut R, buffer: &mut [u8]) -> usize
     ensures { result ≤ length buffer.new }
 {
@@ -73,8 +61,9 @@ fn part<R: Read, W: Write>(case: u64, reader: &mut R, output: &mut W) -> bool {
 fn main(rt: HostRuntime) {
     let mut reader = rt.stdin();
     let mut output = rt.stdout();
-    let mut case = 1;
-    while case < 10000 && part(case, &mut reader, &mut output) {
-        case += 1;
+    for case in 1..10000 {
+        if !part(case, &mut reader, &mut output) {
+            break;
+        }
     }
 }

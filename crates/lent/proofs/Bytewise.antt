@@ -7,11 +7,9 @@ use mathlib.Core.List.{List, [], ◌∷◌}
 use lib.ListN.{length, get_or, drop}
 use lib.Dec.{leb, eqb}
 use Prim.Native.Nat.{ℕ, ◌≤◌, ◌<◌}
-use Rattle.refusals.specs.Refusals.{number_of}
-use Rattle.refusals.specs.declared.Refusal.{Refusal}
 use Rattle.schedule.proofs.Numbers.{both}
 use Rattle.arbiter.specs.declared.Call.{Call}
-use Rattle.arbiter.specs.Calls.{after, answer, Told, done, refused, told}
+use Rattle.arbiter.specs.Calls.{Reply, after, answer, Told, done, refused, told}
 use Rattle.callers.specs.Callers.{outcome_by, after_by, answer_by, after_all_by, answers_to, concerning_by}
 use Rattle.device.specs.Device.{sized}
 use Rattle.callers.specs.Conditions.{RefusedBy}
@@ -24,25 +22,8 @@ use Rattle.lent.proofs.Packing.{state_again, there_and_back, bytes_length, cores
 use Rattle.lent.specs.Bytes.{bytes_of, state_of}
 use Rattle.device.specs.declared.Arbiter.{Arbiter}
 use Rattle.arbiter.specs.declared.Outcome.{Outcome}
-use Rattle.arbiter.specs.declared.Reply.{Reply}
-use Rattle.arbiter.specs.declared.Reply.TheVariants.{Accepted, Value, Refused}
-use Rattle.lent.specs.Answers.{done_into, refused_into, beside}
+use Rattle.lent.specs.Answers.{beside}
 use Rattle.lent.specs.OnBytes.{told_into, room, arbiter_into, arbiter_call, Lends, WholeCall, Lending, reset_of, called_on, bytes_after, asked_of, AllMade, found_in, found_by}
-
-module _ (lent : List ℕ) (r : Reply) where
-  pub replied_accepted : (call : ℕ × List ℕ) → r ≡ Accepted → done_into lent ≡ call → told_into (told r) lent ≡ call
-  replied_accepted call e h = ap (λ (x : Reply). told_into (told x) lent) e ∙ h
-
-  pub replied_value : (v : ℕ) (after : List ℕ) → r ≡ Value v → after ≡ 0 ∷ v ∷ drop 2 lent → told_into (told r) lent ≡ (0, after)
-  replied_value v after e h = ap (λ (x : Reply). told_into (told x) lent) e ∙ ap (λ (l : List ℕ). (0, l)) (sym h)
-
-  pub replied_refused : (x : Refusal) (place : ℕ) (call : ℕ × List ℕ) → r ≡ Refused x place → refused_into (number_of x) place lent ≡ call
-      → told_into (told r) lent ≡ call
-  replied_refused x place call e h = ap (λ (y : Reply). told_into (told y) lent) e ∙ h
-
-pub concluded : (o : Outcome) (lent after said : List ℕ) (status : ℕ) → after ≡ bytes_of o.state → told_into (told o.reply) lent ≡ (status, said)
-    → arbiter_into o lent ≡ (status, after, said)
-concluded o lent after said status p q = ap (beside (bytes_of o.state)) q ∙ ap (λ (l : List ℕ). (status, l, said)) (sym p)
 
 pub has_room : (s lent : List ℕ) → room s lent ≡ true → (length s ≡ 51) × (2 ≤ length lent)
 unfolding room
@@ -54,11 +35,6 @@ module _ (k : ℕ) (c : Call) (s lent : List ℕ) where
   pub no_room : room s lent ≡ false → arbiter_call k c s lent ≡ (2, s, lent)
   unfolding arbiter_call
   no_room e = rw e
-
-  pub with_room : room s lent ≡ true → (a : Arbiter) → a ≡ state_of s → (o : Outcome) → o ≡ outcome_by k c a → (call : ℕ × List ℕ × List ℕ)
-      → arbiter_into o lent ≡ call → arbiter_call k c s lent ≡ call
-  unfolding arbiter_call
-  with_room e a p o q call h = rw (e, ← p, ← q) h
 
 -- ---- what the program finds
 

@@ -18,11 +18,11 @@ ghost use Rattle.lent.specs.OnBytes.{room, told_into, arbiter_into, arbiter_call
 
 use crate::state_bytes::{BYTES, put_state, state_of};
 use arbiter::{Call, Outcome, Reply};
-use refusals::Refusal;
+use refusals::Refused;
 
 mod state_bytes;
 
-// Status: accepted, the edit or the call to the arbiter is done, or the figures or finishes are given.
+// Statuses are numbers, which C reads. This one: accepted, the edit or the call to the arbiter is done, or the figures or finishes are given.
 pub const DONE: u64 = 0;
 
 // Status: refused.
@@ -32,6 +32,7 @@ pub const REFUSED: u64 = 1;
 pub const SHORT: u64 = 2;
 
 // The first two places of an answer; later ones keep their contents.
+// Each function asks for the two places by itself: the answer is a slice of any length that C lends.
 pub fn put(answer: &mut [u64], first: u64, second: u64)
     requires { 2 ≤ length answer.old }
     ensures { answer.new ≡ first ∷ second ∷ drop 2 answer.old }
@@ -50,23 +51,20 @@ pub fn done(answer: &mut [u64]) -> u64
 }
 
 // Refused: the answer takes the number and the place.
-pub fn refuse(answer: &mut [u64], r: Refusal, place: usize) -> u64
+pub fn refuse(answer: &mut [u64], r: Refused) -> u64
     requires { 2 ≤ length answer.old }
-    ensures { refused_into (number_of r) place answer.old ≡ (result, answer.new) }
+    ensures { refused_into (number_of r.refusal) r.place answer.old ≡ (result, answer.new) }
 {
-    let number = refusals::number(r);
-    put(answer, number as u64, place as u64);
+    put(answer, u64::from(r.refusal), r.place as u64);
     REFUSED
 }
 
 // Has the answer two places, and is the state as long as a state of the arbiter is?
+#[tactic(auto, unfolding(crate::specs::OnBytes::room))]
 fn has_room(state: &[u8], answer: &[u64]) -> bool
     ensures { result ≡ room state.now answer.now }
 {
-    if answer.len() < 2 {
-        return false;
-    }
-    state.len() == BYTES
+    2 <= answer.len() && state.len() == BYTES
 }
 
 // What a call to the arbiter answers: 0 and the value read, 0 where none is, or the number and the place.
@@ -75,12 +73,12 @@ fn reply(answer: &mut [u64], r: Reply) -> u64
     ensures { told_into (told r) answer.old ≡ (result, answer.new) }
 {
     match r {
-        Reply::Accepted => done(answer),
-        Reply::Value(v) => {
+        Ok(None) => done(answer),
+        Ok(Some(v)) => {
             put(answer, 0, v as u64);
             DONE
         }
-        Reply::Refused(x, place) => refuse(answer, x, place),
+        Err(e) => refuse(answer, e),
     }
 }
 
@@ -90,11 +88,11 @@ fn conclude(state: &mut [u8], answer: &mut [u64], o: Outcome) -> u64
     ensures { arbiter_into o answer.old ≡ (result, state.new, answer.new) }
 {
     put_state(state, o.state);
-    let r = o.reply;
-    reply(answer, r)
+    reply(answer, o.reply)
 }
 
 // A caller's call to the arbiter whose state is in the bytes: the state after it is put back, and the answer takes what it answers.
+#[tactic(auto, using(crate::proofs::Bytewise::whole_call, crate::proofs::Bytewise::has_room), unfolding(crate::specs::OnBytes::arbiter_call))]
 pub fn call(state: &mut [u8], answer: &mut [u64], caller: usize, c: Call) -> u64
     ensures equality { arbiter_call caller c state.old answer.old ≡ (result, state.new, answer.new) }
     ensures whole { WholeCall caller c state.old answer.old result state.new answer.new }

@@ -7,26 +7,19 @@ use device::{Arbiter, Registers};
 // How many bytes a state has.
 pub const BYTES: usize = 51;
 
-// The state in the bytes.
+// The state in the bytes. It and `put_state` are no `From`: the bytes are a slice of any length that C lends, and the state is another crate's.
 pub fn state_of(bytes: &[u8]) -> Arbiter
     requires { length bytes.now ≡ 51 }
     ensures { result ≡ state_of bytes.now }
 {
-    let clear = Registers {
-        length: 0,
-        flags: 0,
-        mask: 0,
-    };
-    let mut registers = [clear; 16];
-    let mut i = 0;
-    while i < 16 {
+    let mut registers = [Registers::default(); 16];
+    for (i, r) in registers.iter_mut().enumerate() {
         let at = 3 + 3 * i;
-        registers[i] = Registers {
+        *r = Registers {
             length: bytes[at],
             flags: bytes[at + 1],
             mask: bytes[at + 2],
         };
-        i += 1;
     }
     Arbiter {
         cores: bytes[0],
@@ -52,11 +45,7 @@ pub fn put_state(bytes: &mut [u8], s: Arbiter)
     ensures { bytes.new ≡ bytes_of s }
 {
     put_three(bytes, 0, s.cores, s.slot, s.offset);
-    let registers = s.registers;
-    let mut i = 0;
-    while i < 16 {
-        let r = registers[i];
+    for (i, r) in s.registers.iter().enumerate() {
         put_three(bytes, 3 + 3 * i, r.length, r.flags, r.mask);
-        i += 1;
     }
 }

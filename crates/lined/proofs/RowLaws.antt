@@ -5,6 +5,8 @@ use mathlib.Core.Option.{none}
 use mathlib.Core.List.{List, [], ◌∷◌}
 use lib.ListN.{get_or, length, take, drop}
 use lib.Dec.{eqb}
+use borrow.Rule.Slice.PartMut.{put_mid}
+use Rattle.std.proofs.lemmas.Grind.{common_steps}
 use borrow.Author.Tests.{eqb-true, eqb-false, ne_eqb, eq-eqb}
 use native.Mathlib.Nat.{add-div_right, div-eq_of_lt, div-eq-sub-div, zero-add, suc-add, not-suc-le-zero, le_of_suc-le-suc, mod-lt, div-add-mod', div-lt_iff_lt-mul, suc-mul, add-mul, one-mul, mul-le-mul_right}
 use native.Mathlib.Omega.{arith}
@@ -29,6 +31,12 @@ use Rattle.times.proofs.Tables.{time_none, table_of_at}
 use Rattle.lined.specs.declared.Step.{Step}
 use Rattle.lined.specs.declared.Step.TheVariants.{Plain, May, Always}
 use Rattle.lined.specs.Lined.{block_of, row_at, FitsFrom, SteppedRow, lined, SteppedAll, Fetched, Visited, RowsReady}
+
+-- the row m of at most 16 ends inside the table
+pub row_ends : (m sets q n : ℕ) → m < sets → sets ≤ 16 → q ≤ 256 → sets * q ≤ n → (m * q + q ≤ n) × (m * q + q ≤ 4096)
+row_ends m sets q n l few small long =
+    let near = mul-le-mul_right q l in
+    (omega (arith, near, suc-mul m q, long), omega (arith, near, suc-mul m q, mul-le-mul_right q few, small))
 
 -- ---- a part of a list
 
@@ -70,6 +78,15 @@ not_both h g = let z : 1 ≤ 0 = omega arith in not-suc-le-zero z
 still : (d : ℕ) → later d none ≡ none
 unfolding later
 still d = refl
+
+-- what stands in a part of a table after a write of ys there
+pub written : (t ys : List ℕ) (at k n : ℕ) → k ≡ n → at + n ≤ length t → length ys ≡ n → Put t at n ys (put_mid at k t ys)
+written t ys at k n e l h = record {
+  size = grind (arith, common_steps);
+  inside = λ o m. grind (arith, common_steps);
+  before = λ p m. grind (arith, common_steps);
+  after = λ p m. grind (arith, common_steps);
+}
 
 module _ (b : Bus) where
   abbrev P : ℕ

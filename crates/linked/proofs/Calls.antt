@@ -3,27 +3,20 @@ use borrow.Author.Tests.{lt-ltb, le-ltb, ltb-false}
 use mathlib.Core.Path.{◌≡◌, refl, sym, ◌∙◌, ap, ap₂, subst}
 use mathlib.Core.Bool.{Bool, true, false, cond}
 use mathlib.Core.List.{List, [], ◌∷◌, ◌++◌}
-use lib.ListN.{length, take, drop, set, get_or-append}
+use lib.ListN.{length, drop, set, get_or-append}
 use lib.Dec.{ltb}
-use lib.Seq.{take_all}
 use native.Mathlib.Omega.{arith}
 use Prim.Native.Nat.{ℕ, ◌≤◌, ◌<◌}
 use Rattle.image_bytes.specs.Bytes.{byte_at}
 use Rattle.image.specs.Judged.{numbered_of, numbered}
 use Rattle.refusals.specs.Refusals.{number_of}
 use Rattle.image.specs.Promise.{Judging}
-use Rattle.refusals.specs.declared.Refusal.{Refusal}
+use Rattle.std.specs.Prelude.{Result as Outcome, Ok, Err, ⊤}
+use Rattle.refusals.specs.declared.Refused.{Refused}
 use Rattle.image.specs.declared.Outline.{Outline}
-use Rattle.image.specs.declared.Verdict.{Verdict}
-use Rattle.image.specs.declared.Verdict.TheVariants.{Accepted, Refused}
 use Rattle.answers.specs.declared.Totals.{Totals}
-use Rattle.answers.specs.declared.Answer.{Answer}
-use Rattle.answers.specs.declared.Answer.TheVariants.{Given, Refused as NotGiven}
 use Rattle.answers.specs.Answers.{Result, result_of}
 use Rattle.answers.proofs.Promises.{runs}
-use Rattle.edits.specs.declared.Edited.{Edited}
-use Rattle.edits.specs.declared.Found.{Found}
-use Rattle.edits.specs.declared.Found.TheVariants.{At, Refused as NotFound}
 use Rattle.edits.specs.Edits.{found, change_for, change_of, image_with}
 use Rattle.edits.specs.Promise.{Editable, Editing, Leaves}
 use Rattle.edits.proofs.Standing.{still_accepted}
@@ -31,8 +24,6 @@ use Rattle.edits.proofs.Finds.{when_found}
 use Rattle.edits.proofs.Laws.{edit_is, change_is, leaves}
 use Rattle.previews.specs.Promise.{Previewing}
 use Rattle.previews.proofs.Laws.{preview_is}
-use Rattle.graph.specs.declared.Verdict.{Verdict as TableVerdict}
-use Rattle.graph.specs.declared.Verdict.TheVariants.{Accepted as TableAccepted, Refused as TableRefused}
 use Rattle.graph.specs.declared.Answer.{Answer as FinishesFound}
 use Rattle.graph.specs.Table.{Result as FinishesResult, result_by as finishesBy, finishes_of, answer as finishesAnswer}
 use Rattle.graph.specs.Promise.{Equal as FinishesEqual}
@@ -56,42 +47,42 @@ module _ (s lent : List ℕ) where
   unfolding judge_call
   judge_short h = ap (λ (t : Bool). cond t (2, lent) (judged_into (numbered s) lent)) (lt-ltb (length lent) 2 h)
 
-  module _ (long : 2 ≤ length lent) (v : Verdict) (places : List ℕ) (j : Judging s v places) where
+  module _ (long : 2 ≤ length lent) (v : Outcome Outline Refused) (places : List ℕ) (j : Judging s v places) where
     judge_is : judge_call s lent ≡ judged_into (numbered_of s v) lent
     unfolding judge_call
     judge_is =
         ap (λ (t : Bool). cond t (2, lent) (judged_into (numbered s) lent)) (le-ltb (length lent) 2 long)
-        ∙ ap (λ (x : Verdict). judged_into (numbered_of s x) lent) (sym j.is)
+        ∙ ap (λ (x : Outcome Outline Refused). judged_into (numbered_of s x) lent) (sym j.is)
 
-    pub judge_accepted : (k : Outline) (after : List ℕ) → v ≡ Accepted k → after ≡ 0 ∷ k.period ∷ drop 2 lent → judge_call s lent ≡ (0, after)
+    pub judge_accepted : (k : Outline) (after : List ℕ) → v ≡ Ok k → after ≡ 0 ∷ k.period ∷ drop 2 lent → judge_call s lent ≡ (0, after)
     judge_accepted k after e h =
-        judge_is ∙ ap (λ (x : Verdict). judged_into (numbered_of s x) lent) e
+        judge_is ∙ ap (λ (x : Outcome Outline Refused). judged_into (numbered_of s x) lent) e
         ∙ ap (λ (n : ℕ). (0, 0 ∷ n ∷ drop 2 lent)) (sym (j.accepted k e).period) ∙ ap (λ (l : List ℕ). (0, l)) (sym h)
 
-    pub judge_refused : (r : Refusal) (place : ℕ) (call : ℕ × List ℕ) → v ≡ Refused r place → refused_into (number_of r) place lent ≡ call
+    pub judge_refused : (r : Refused) (call : ℕ × List ℕ) → v ≡ Err r → refused_into (number_of r.refusal) r.place lent ≡ call
         → judge_call s lent ≡ call
-    judge_refused r place call e h = judge_is ∙ ap (λ (x : Verdict). judged_into (numbered_of s x) lent) e ∙ h
+    judge_refused r call e h = judge_is ∙ ap (λ (x : Outcome Outline Refused). judged_into (numbered_of s x) lent) e ∙ h
 
 -- ---- an answer with figures
 
-module _ (lent : List ℕ) (a : Answer) where
-  pub told_given : 3 ≤ length lent → (f : Totals) (after : List ℕ) → a ≡ Given f → after ≡ f.tight ∷ f.published ∷ drop 2 lent
+module _ (lent : List ℕ) (a : Outcome Totals Refused) where
+  pub told_given : 3 ≤ length lent → (f : Totals) (after : List ℕ) → a ≡ Ok f → after ≡ f.tight ∷ f.published ∷ drop 2 lent
       → figures_into (result_of a) lent ≡ (0, set after 2 f.exits)
   told_given long f after g h =
-      ap (λ (x : Answer). figures_into (result_of x) lent) g
+      ap (λ (x : Outcome Totals Refused). figures_into (result_of x) lent) g
       ∙ ap (λ (l : List ℕ). (0, l)) (sym (put_third lent f.tight f.published f.exits long))
       ∙ ap (λ (l : List ℕ). (0, set l 2 f.exits)) (sym h)
 
-  pub told_refused : (r : Refusal) (place : ℕ) (call : ℕ × List ℕ) → a ≡ NotGiven r place → refused_into (number_of r) place lent ≡ call
+  pub told_refused : (r : Refused) (call : ℕ × List ℕ) → a ≡ Err r → refused_into (number_of r.refusal) r.place lent ≡ call
       → figures_into (result_of a) lent ≡ call
-  told_refused r place call g h = ap (λ (x : Answer). figures_into (result_of x) lent) g ∙ h
+  told_refused r call g h = ap (λ (x : Outcome Totals Refused). figures_into (result_of x) lent) g ∙ h
 
 module _ (result : Result) (filled table lent : List ℕ) where
   pub told_short : length lent < 3 → answer_call result filled table lent ≡ (2, table, lent)
   unfolding answer_call
   told_short h = rw (lt-ltb (length lent) 3 h)
 
-  pub told_call : 3 ≤ length lent → (a : Answer) (after : List ℕ) → result_of a ≡ result → after ≡ filled → (status : ℕ) (found : List ℕ)
+  pub told_call : 3 ≤ length lent → (a : Outcome Totals Refused) (after : List ℕ) → result_of a ≡ result → after ≡ filled → (status : ℕ) (found : List ℕ)
       → figures_into (result_of a) lent ≡ (status, found) → answer_call result filled table lent ≡ (status, after, found)
   unfolding answer_call
   told_call long a after e h status found t =
@@ -117,7 +108,7 @@ module _ (s : List ℕ) (node lo hi : ℕ) (lent : List ℕ) where
   unfolding edit_call
   edit_short h = rw (lt-ltb (length lent) 2 h)
 
-  pub edit_call_lem : 2 ≤ length lent → (r : Edited) (image : List ℕ) → Editing s node lo hi r image → (x : Edited) → r ≡ x
+  pub edit_call_lem : 2 ≤ length lent → (r : Outcome ⊤ Refused) (image : List ℕ) → Editing s node lo hi r image → (x : Outcome ⊤ Refused) → r ≡ x
       → (status : ℕ) (found : List ℕ) → changed_into (change_of x) lent ≡ (status, found) → edit_call s node lo hi lent ≡ (status, image, found)
   unfolding edit_call
   edit_call_lem long r image e x q status found h =
@@ -130,11 +121,11 @@ module _ (s : List ℕ) (node lo hi : ℕ) (lent : List ℕ) where
   whole_edit small status image said e =
       record { possible = λ z. let w = by_places (ltb (length lent) 2) (found s node lo hi) refl refl z in (w.0, omega (arith, w.1)); done = λ d long. when_possible d (omega (arith, long)) }
     where
-      by_found : (f : Found) → found s node lo hi ≡ f → (changed_into (change_for f) lent).0 ≡ 0 → Editable s node lo hi
-      by_found (At place) q z = when_found s node lo hi place q
-      by_found (NotFound r place) q z = absurd (omega arith)
+      by_found : (f : Outcome ℕ Refused) → found s node lo hi ≡ f → (changed_into (change_for f) lent).0 ≡ 0 → Editable s node lo hi
+      by_found (Ok place) q z = when_found s node lo hi place q
+      by_found (Err r) q z = absurd (omega arith)
 
-      by_places : (short : Bool) (f : Found) → ltb (length lent) 2 ≡ short → found s node lo hi ≡ f → status ≡ 0
+      by_places : (short : Bool) (f : Outcome ℕ Refused) → ltb (length lent) 2 ≡ short → found s node lo hi ≡ f → status ≡ 0
           → Editable s node lo hi × (2 ≤ length lent)
       by_places true f p q z = absurd (let w = ap (λ (x : ℕ × List ℕ × List ℕ). x.0) (rw p at e) in omega arith)
       by_places false f p q z = (by_found f q (ap (λ (x : ℕ × List ℕ × List ℕ). x.0) (rw (p, q) at e) ∙ z), omega (arith, ltb-false (length lent) 2 p))
@@ -169,14 +160,14 @@ module _ (s : List ℕ) (node lo hi : ℕ) (before lent : List ℕ) where
   pub no_preview : (table said : List ℕ) → preview_call s node lo hi before lent ≡ (2, table, said) → WholePreview s node lo hi before lent 2 table said
   no_preview table said is = whole_preview 2 table said is (λ z. absurd (omega arith))
 
-  pub told_preview : 3 ≤ length lent → (a : Answer) (status : ℕ) (table said : List ℕ) → Previewing s node lo hi before a table
+  pub told_preview : 3 ≤ length lent → (a : Outcome Totals Refused) (status : ℕ) (table said : List ℕ) → Previewing s node lo hi before a table
       → figures_into (result_of a) lent ≡ (status, said) → preview_call s node lo hi before lent ≡ (status, table, said) → WholePreview s node lo hi before lent status table said
   told_preview enough a status table said p e is = whole_preview status table said is (λ z. by_answer a refl (ap (λ (x : ℕ × List ℕ). x.0) e ∙ z))
     where
-      by_answer : (x : Answer) → a ≡ x → (figures_into (result_of x) lent).0 ≡ 0
+      by_answer : (x : Outcome Totals Refused) → a ≡ x → (figures_into (result_of x) lent).0 ≡ 0
           → (d : Editable s node lo hi) × (d.outline.period ≤ length before) × (3 ≤ length lent)
-      by_answer (Given t) q z = let w = p.possible t q in (w.0, omega (arith, w.1), omega (arith, enough))
-      by_answer (NotGiven r place) q z = absurd (omega arith)
+      by_answer (Ok t) q z = let w = p.possible t q in (w.0, omega (arith, w.1), omega (arith, enough))
+      by_answer (Err r) q z = absurd (omega arith)
 
 -- ---- the finishes
 
@@ -195,21 +186,17 @@ module _ (table before lent : List ℕ) where
     unfolding finishes_call
     finishes_by r e = rw (le-ltb (length lent) 2 long, le-ltb (length before) 64 room) (ap (λ (x : FinishesResult). finishes_into x before lent) e)
 
-    module _ (a : FinishesFound) (e : FinishesEqual table a) (filled : List ℕ) (h : filled ≡ take 64 a.finishes ++ drop 64 before)
-        (all : length a.finishes ≡ 64) where
-      filled_is : filled ≡ a.finishes ++ drop 64 before
-      filled_is = h ∙ ap (λ (f : List ℕ). f ++ drop 64 before) (take_all 64 a.finishes (omega arith))
+    module _ (a : FinishesFound) (e : FinishesEqual table a) (filled : List ℕ) (is : filled ≡ a.finishes ++ drop 64 before) where
+      finishes_is : (v : Outcome ⊤ ℕ) → a.verdict ≡ v → finishes_call table before lent ≡ finishes_into (finishesBy v a.finishes) before lent
+      finishes_is v q = finishes_by (finishesBy v a.finishes) (sym e ∙ ap (λ (x : Outcome ⊤ ℕ). finishesBy x a.finishes) q)
 
-      finishes_is : (v : TableVerdict) → a.verdict ≡ v → finishes_call table before lent ≡ finishes_into (finishesBy v a.finishes) before lent
-      finishes_is v q = finishes_by (finishesBy v a.finishes) (sym e ∙ ap (λ (x : TableVerdict). finishesBy x a.finishes) q)
-
-      pub finishes_given : (status : ℕ) (after : List ℕ) → a.verdict ≡ TableAccepted → done_into lent ≡ (status, after)
+      pub finishes_given : (status : ℕ) (after : List ℕ) → a.verdict ≡ Ok tt → done_into lent ≡ (status, after)
           → finishes_call table before lent ≡ (status, filled, after)
-      finishes_given status after v q = rw filled_is (finishes_is TableAccepted v ∙ ap (beside (a.finishes ++ drop 64 before)) q)
+      finishes_given status after v q = rw is (finishes_is (Ok tt) v ∙ ap (beside (a.finishes ++ drop 64 before)) q)
 
-      pub finishes_refused : (place : ℕ) (after : List ℕ) → a.verdict ≡ TableRefused place → after ≡ 21 ∷ place ∷ drop 2 lent
+      pub finishes_refused : (place : ℕ) (after : List ℕ) → a.verdict ≡ Err place → after ≡ 21 ∷ place ∷ drop 2 lent
           → finishes_call table before lent ≡ (1, filled, after)
-      finishes_refused place after v q = rw (filled_is, q) (finishes_is (TableRefused place) v)
+      finishes_refused place after v q = rw (is, q) (finishes_is (Err place) v)
 
   -- what the program finds of an accepted table
   pub whole_finishes : (status : ℕ) (after said : List ℕ) → finishes_call table before lent ≡ (status, after, said) → WholeFinishes table before lent status after

@@ -4,11 +4,10 @@
 -- `graph`. The arbiter's calls are in specs/OnBytes.antt of `lent`.
 --
 -- Statuses: 0 accepted, done or given, 1 refused, 2 the answer or the finishes have too few places. With 2 every slice keeps its contents.
-use Rattle.std.specs.Prelude.{◌≡◌, cond, List, ◌∷◌, ◌++◌, length, get_or, drop, ltb, ℕ, ◌≤◌}
+use Rattle.std.specs.Prelude.{◌≡◌, cond, List, ◌∷◌, ◌++◌, length, get_or, drop, ltb, ℕ, ◌≤◌, Ok}
 use Rattle.image.specs.Tasks.{task_of}
 use Rattle.image.specs.Judged.{Numbered, accepted, refused as rejected, judged, numbered}
 use Rattle.image.specs.declared.Outline.{Outline}
-use Rattle.image.specs.declared.Verdict.TheVariants.{Accepted}
 use Rattle.answers.specs.Answers.{Result, given, refused, answer, table_after}
 use Rattle.answers.specs.WholeRuns.{WholeRuns}
 use Rattle.edits.specs.Edits.{Change, done, refused as notDone, image_with, change, image_after}
@@ -43,7 +42,7 @@ figures_call image table lent = answer_call (answer image table) (table_after im
 
 -- an accepted image with places enough is given figures, and demand 3 holds of the numbers that the program finds
 abbrev pub WholeFigures : List ℕ → List ℕ → List ℕ → ℕ → List ℕ → List ℕ → Type 0
-WholeFigures image before lent status table found = (k : Outline) → judged image ≡ Accepted k → k.period ≤ length before → 3 ≤ length lent
+WholeFigures image before lent status table found = (k : Outline) → judged image ≡ Ok k → k.period ≤ length before → 3 ≤ length lent
     → (status ≡ 0) × WholeRuns (task_of image k) (get_or found 0 0) (get_or found 1 0) (get_or found 2 0) table
 
 -- an edit: 0 and 0, or the number and the place

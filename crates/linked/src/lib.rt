@@ -23,13 +23,12 @@ ghost use Rattle.linked.specs.Linked.{judge_call, figures_into, figures_call, Wh
 ghost use Rattle.arbiter.specs.declared.Call.TheVariants.{Read, Line, Write, Tick, Reset};
 ghost use Rattle.lent.specs.OnBytes.{arbiter_call, WholeCall};
 
-use answers::Answer;
+use answers::Totals;
 use arbiter::Call;
-use edits::Edited;
-use image::Verdict;
 use lent::{DONE, REFUSED, SHORT, done, put, refuse};
+use refusals::Refused;
 
-// The number of a refused task table.
+// The number of a refused task table, as C reads it; no image gets it, so it is no case of `Refusal`.
 const TASK: u64 = 21;
 
 // The places of an answer that takes figures.
@@ -46,26 +45,26 @@ pub extern "C" fn slotfigures_judge(image: &[u8], answer: &mut [u64]) -> u64
     let judged = image::judge(image);
     let verdict = judged.verdict;
     match verdict {
-        Verdict::Accepted(k) => {
+        Ok(k) => {
             put(answer, 0, k.period as u64);
             DONE
         }
-        Verdict::Refused(r, place) => refuse(answer, r, place),
+        Err(e) => refuse(answer, e),
     }
 }
 
 // The answer takes both figures and the exit count, or a refusal's number and place.
-fn tell(answer: &mut [u64], found: Answer) -> u64
+fn tell(answer: &mut [u64], found: Result<Totals, Refused>) -> u64
     requires { 3 ≤ length answer.old }
     ensures { figures_into (result_of found) answer.old ≡ (result, answer.new) }
 {
     match found {
-        Answer::Given(f) => {
+        Ok(f) => {
             put(answer, f.tight, f.published);
             answer[2] = f.exits;
             DONE
         }
-        Answer::Refused(r, place) => refuse(answer, r, place),
+        Err(e) => refuse(answer, e),
     }
 }
 
@@ -99,8 +98,8 @@ pub extern "C" fn slotfigures_edit(
     }
     let edited = edits::edit(image, node as usize, lowest as usize, highest as usize);
     match edited {
-        Edited::Done => done(answer),
-        Edited::Refused(r, place) => refuse(answer, r, place),
+        Ok(()) => done(answer),
+        Err(e) => refuse(answer, e),
     }
 }
 
@@ -150,10 +149,10 @@ pub extern "C" fn slotfigures_finishes(
     let found = graph::finishes(table);
     let verdict = found.verdict;
     let ends = found.finishes;
-    figures::fill(finishes, &ends, 64);
+    finishes[..64].copy_from_slice(&ends);
     match verdict {
-        graph::Verdict::Accepted => done(answer),
-        graph::Verdict::Refused(place) => {
+        Ok(()) => done(answer),
+        Err(place) => {
             put(answer, TASK, place as u64);
             REFUSED
         }

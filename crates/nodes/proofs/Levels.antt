@@ -1,7 +1,7 @@
 -- Depth and visits of a node come from its children's: a child's number is smaller, so its tree is known (`tree_is` of crate `runs`).
 use mathlib.Core.Path.{◌≡◌, refl, ◌∙◌, ap, subst}
 use mathlib.Core.List.{List}
-use Prim.Native.Nat.{ℕ, suc, ◌+◌, ◌-◌, ◌*◌, ◌≤◌, ◌<◌, min, max}
+use Prim.Native.Nat.{ℕ, suc, ◌+◌, ◌-◌, ◌*◌, ◌≤◌, ◌<◌, max}
 use native.Mathlib.Nat.{not-suc-le-zero}
 use native.Mathlib.Omega.{arith}
 use lib.ListN.{length, get_or, set, length-set, replicate}
@@ -14,7 +14,8 @@ use Rattle.rows.specs.Fields.{field_at}
 use Rattle.rows.specs.Unclosed.{Unclosed}
 use Rattle.nodes.specs.Nodes.{node_of, meant, node_at, tree_at, child_trees}
 use Rattle.nodes.specs.Fine.{Fine, Standing}
-use Rattle.nodes.specs.Weights.{Holds}
+use Rattle.nodes.specs.Weights.{no_weight, Weighs, Weighed}
+use Rattle.nodes.specs.declared.weigh.Weight.{Weight}
 use Rattle.nodes.specs.declared.Node.{Node}
 use Rattle.nodes.specs.declared.Node.TheVariants.{Plain, Bus as Block, Once, Sequence, Branch, Loop}
 use Rattle.nodes.proofs.Lists.{words_step, words_none, all_words}
@@ -75,19 +76,19 @@ module _ (s : List ℕ) (p n i : ℕ) where
   unfolding trees visits_all
   visits_none h = rw (words_none s p n i h)
 
--- a table of 256 places, right for each node below n
-pub record Table (cap : ℕ) (f : ℕ → ℕ) (n : ℕ) (t : List ℕ) : Type 0 where
+-- a table of 256 places, with the weights of the nodes before n
+pub record Table (s : List ℕ) (n : ℕ) (t : List Weight) : Type 0 where
   pub long : length t ≡ 256
-  pub right : Holds cap f n t
+  pub right : Weighed s n t
 
-pub table_first : (cap : ℕ) (f : ℕ → ℕ) → Table cap f 0 (replicate 256 0)
-table_first cap f = record { long = refl; right = λ k h. absurd (not-suc-le-zero h) }
+pub table_first : (s : List ℕ) → Table s 0 (replicate 256 no_weight)
+table_first s = record { long = refl; right = λ k h. absurd (not-suc-le-zero h) }
 
-pub table_more : (cap : ℕ) (f : ℕ → ℕ) (n v : ℕ) (t : List ℕ) → Table cap f n t → n < 256 → v ≡ min cap (f n) → Table cap f (n + 1) (set t n v)
-table_more cap f n v t h few e =
+pub table_more : (s : List ℕ) (n : ℕ) (w : Weight) (t : List Weight) → Table s n t → n < 256 → Weighs s n w → Table s (n + 1) (set t n w)
+table_more s n w t h few e =
     record {
-      long = length-set t n v ∙ h.long;
-      right = below_more (λ k. get_or (set t n v) k 0 ≡ min cap (f k)) n
-          (λ k b. get_or-set_other t n k v 0 (λ q. omega arith) ∙ h.right k b)
-          (get_or-set_same t n v 0 (omega (arith, h.long)) ∙ e);
+      long = length-set t n w ∙ h.long;
+      right = below_more (λ k. Weighs s k (get_or (set t n w) k no_weight)) n
+          (λ k b. rw (get_or-set_other t n k w no_weight (λ q. omega arith)) (h.right k b))
+          (rw (get_or-set_same t n w no_weight (omega (arith, h.long))) e);
     }

@@ -1,13 +1,9 @@
--- A cap on a sum, on a greatest or on a product is the same before and after it.
+-- A cap on a sum or on a product is the same before and after it.
 use mathlib.Core.Path.{◌≡◌, sym, ◌∙◌, ap}
-use Prim.Native.Nat.{ℕ, zero, suc, ◌+◌, ◌*◌, ◌≤◌, min, max}
-use native.Mathlib.Nat.{mul-le-mul, mul-le-mul_right, min-eq_left, zero-mul}
+use Prim.Native.Nat.{ℕ, zero, suc, ◌+◌, ◌*◌, ◌≤◌, min}
+use native.Mathlib.Nat.{mul-le-mul_right, min-eq_left, zero-mul}
 use native.Mathlib.Omega.{arith}
 use Rattle.runs.proofs.Cases.{split}
-
--- caps
-pub max_out : (C a b : ℕ) → min C (max a b) ≡ max (min C a) (min C b)
-max_out C a b = omega arith
 
 at_cap : (C g v : ℕ) → C ≤ v → 1 ≤ g → min C (g * v) ≡ C
 at_cap C g v h k = let m : 1 * v ≤ g * v = mul-le-mul_right v k in min-eq_left (omega arith)
@@ -25,9 +21,3 @@ cap_turns C g b t v w p q =
     let rounds : min C (g * (b + t)) ≡ min C (g * (v + w)) =
     sym (cap_times C g (b + t)) ∙ ap (λ (z : ℕ). min C (g * z)) (omega arith) ∙ cap_times C g (v + w) in
     omega (arith, rounds, q)
-
-pub turns_most : (g b t : ℕ) → g ≤ 10000 → b ≤ 100001 → t ≤ 100001 → g * (b + t) ≤ 2000020000
-turns_most g b t p q r =
-    let both : b + t ≤ 200002 = omega arith in
-    let all : g * (b + t) ≤ 10000 * 200002 = mul-le-mul p both in
-    all

@@ -6,7 +6,6 @@ ghost use Rattle.nodes.specs.Nodes.{meant, node_of, lines_of};
 ghost use Rattle.rows.specs.Unclosed.{Unclosed};
 ghost use Rattle.nodes.specs.Fine.{Standing, Placed};
 
-use crate::weigh::larger;
 use crate::{Node, node_at};
 
 // One more than the line number of the node whose field stands at a place, or 0 where it has none.
@@ -14,14 +13,9 @@ fn line_at(image: &[u8], at: usize) -> usize
     requires { (n : ℕ) × Standing image.now n at }
     ensures { result ≡ node_lines (meant image.now (node_of image.now at)) }
 {
-    let node = node_at(image, at);
-    match node {
-        Node::Plain(_) => 0,
-        Node::Bus(_) => 0,
+    match node_at(image, at) {
         Node::Once(x) => x.line + 1,
-        Node::Sequence(_) => 0,
-        Node::Branch(_) => 0,
-        Node::Loop(_) => 0,
+        _ => 0,
     }
 }
 
@@ -30,11 +24,9 @@ pub fn lines(image: &[u8], places: &[usize; 256], nodes: usize) -> usize
     requires { (Unclosed image.now (nodes + 2)) × (Placed image.now nodes places.now) }
     ensures { result ≡ lines_of image.now nodes }
 {
-    let mut most = 0;
-    let mut n = 0;
-    while n < nodes {
-        most = larger(most, line_at(image, places[n]));
-        n += 1;
+    let mut most: usize = 0;
+    for n in 0..nodes {
+        most = most.max(line_at(image, places[n]));
     }
     most
 }
@@ -44,11 +36,5 @@ pub fn power(n: usize) -> usize
     requires { n ≤ 4 }
     ensures { result ≡ powerOf n }
 {
-    match n {
-        0 => 1,
-        1 => 2,
-        2 => 4,
-        3 => 8,
-        _ => 16,
-    }
+    1 << n
 }

@@ -41,7 +41,7 @@ pub struct Once {
     pub hit: usize,
 }
 
-// Where child numbers stand in the image, two bytes each, and how many they are.
+// Where child numbers stand in the image, two bytes each, and how many they are. They stay there, as a rule of the project has it: there is no heap.
 #[derive(Clone, Copy)]
 pub struct Children {
     pub place: usize,
@@ -67,13 +67,11 @@ pub enum Node {
     Loop(Loop),
 }
 
+// A private function and not a `From`, which would be no plainer: it would be public, and make a kind of any number.
 fn kind_of(kind: usize) -> Kind
     ensures { result ≡ kind_of kind }
 {
-    match kind {
-        1 => Kind::May,
-        _ => Kind::Always,
-    }
+    if kind == 1 { Kind::May } else { Kind::Always }
 }
 
 // The node whose field's tag stands at a place.
@@ -85,6 +83,7 @@ pub fn node_at(image: &[u8], at: usize) -> Node
     let tag = byte(image, at);
     let len = word(image, at + 1);
     let body = at + 3;
+    // The tag stays a number, as a rule of the project has it: a task image is judged by a match on it, with a range for the tags of parents.
     match tag {
         3 => Node::Plain(Plain {
             lowest: word(image, body),
@@ -101,9 +100,10 @@ pub fn node_at(image: &[u8], at: usize) -> Node
                 count: len / 2,
             };
             if tag == 5 {
-                return Node::Sequence(children);
+                Node::Sequence(children)
+            } else {
+                Node::Branch(children)
             }
-            Node::Branch(children)
         },
         7 => Node::Loop(Loop {
             least: word(image, body),

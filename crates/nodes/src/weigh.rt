@@ -1,53 +1,33 @@
 // Depth and visits, node by node from the front: a child's number is smaller, so its own are known. Numbers above the limits are
 // held as the limit and one more, which decides the same and never overflows.
-ghost use Rattle.std.specs.Prelude.{◌≡◌, ◌+◌, ◌-◌, ◌*◌, ◌≤◌, ◌<◌, min, max};
+ghost use Rattle.std.specs.Prelude.{◌≡◌, ◌+◌, ◌-◌, ◌*◌, ◌≤◌, ◌<◌, min};
 ghost use Rattle.rows.specs.Unclosed.{Unclosed};
 ghost use Rattle.rows.specs.Rules.{NamesBelow};
 ghost use Rattle.nodes.specs.Fine.{Standing, Placed};
 ghost use Rattle.nodes.specs.Weights.{Weighed, Together, OverTurns, Weighs};
 
-use crate::{Loop, Node, node_at};
+use crate::{Children, Loop, Node, node_at};
 use image_bytes::word;
 
-#[derive(Clone, Copy)]
+// How many levels and how many visits a node has.
+#[derive(Clone, Copy, Default)]
 pub struct Weight {
     pub depth: usize,
     pub visits: usize,
 }
 
-pub fn larger(a: usize, b: usize) -> usize
-    ensures { result ≡ max a b }
+// The children of node n: their greatest depth, up to 25, and their visits together, exact up to 100,000. The table has the weights of
+// the nodes before n.
+fn over_children(image: &[u8], c: Children, n: usize, known: &[Weight; 256]) -> Weight
+    requires { (c.place + 2 * c.count < 18446744073709551615) × (c.count ≤ 16) × (n ≤ 256) × (NamesBelow image.now c.place c.count n) × (Weighed image.now n known.now) }
+    ensures { Together image.now c.place c.count result }
 {
-    if a < b { b } else { a }
-}
-
-fn at_most(cap: usize, x: usize) -> usize
-    ensures { result ≡ min cap x }
-{
-    if cap < x { cap } else { x }
-}
-
-// The `count` children of node n whose numbers stand from a place on: their greatest depth, up to 25, and their visits together, exact
-// up to 100,000. The tables have those of the nodes before n.
-fn over_children(
-    image: &[u8],
-    place: usize,
-    count: usize,
-    n: usize,
-    depths: &[usize; 256],
-    visits: &[usize; 256],
-) -> Weight
-    requires { (place + 2 * count < 18446744073709551615) × (count ≤ 16) × (n ≤ 256) × (NamesBelow image.now place count n) × (Weighed image.now n depths.now visits.now) }
-    ensures { Together image.now place count result }
-{
-    let mut best = 0;
+    let mut best: usize = 0;
     let mut sum = 0;
-    let mut i = 0;
-    while i < count {
-        let child = word(image, place + 2 * i);
-        best = larger(best, depths[child]);
-        sum += visits[child];
-        i += 1;
+    for i in 0..c.count {
+        let child = known[word(image, c.place + 2 * i)];
+        best = best.max(child.depth);
+        sum += child.visits;
     }
     Weight {
         depth: best,
@@ -56,24 +36,16 @@ fn over_children(
 }
 
 // The iterations and all tests of a loop, node n: the greater depth of body and test, up to 25, and their visits, exact up to 100,000.
-fn over_turns(
-    image: &[u8],
-    l: Loop,
-    n: usize,
-    depths: &[usize; 256],
-    visits: &[usize; 256],
-) -> Weight
-    requires { (l.greatest ≤ 10000) × (l.body < n) × (l.test < n) × (n ≤ 256) × (Weighed image.now n depths.now visits.now) }
+fn over_turns(image: &[u8], l: Loop, n: usize, known: &[Weight; 256]) -> Weight
+    requires { (l.greatest ≤ 10000) × (l.body < n) × (l.test < n) × (n ≤ 256) × (Weighed image.now n known.now) }
     ensures { OverTurns image.now l result }
 {
-    let body = l.body;
-    let test = l.test;
-    let tests = visits[test];
-    let each = visits[body] + tests;
-    let turns = l.greatest * each;
+    let body = known[l.body];
+    let test = known[l.test];
+    let turns = l.greatest * (body.visits + test.visits);
     Weight {
-        depth: larger(depths[body], depths[test]),
-        visits: turns + tests,
+        depth: body.depth.max(test.depth),
+        visits: turns + test.visits,
     }
 }
 
@@ -83,39 +55,20 @@ fn above(w: Weight) -> Weight
     ensures { (result.depth ≡ min 25 (1 + w.depth)) × (result.visits ≡ min 100001 (1 + w.visits)) }
 {
     Weight {
-        depth: at_most(25, 1 + w.depth),
-        visits: at_most(100001, 1 + w.visits),
+        depth: (1 + w.depth).min(25),
+        visits: (1 + w.visits).min(100001),
     }
 }
 
-// Depth and visits of node n, whose field stands at a place; the tables have those of the nodes before it.
-fn weight_of(
-    image: &[u8],
-    at: usize,
-    n: usize,
-    depths: &[usize; 256],
-    visits: &[usize; 256],
-) -> Weight
-    requires { (Standing image.now n at) × (Weighed image.now n depths.now visits.now) }
+// Depth and visits of node n, whose field stands at a place; the table has the weights of the nodes before it.
+fn weight_of(image: &[u8], at: usize, n: usize, known: &[Weight; 256]) -> Weight
+    requires { (Standing image.now n at) × (Weighed image.now n known.now) }
     ensures { Weighs image.now n result }
 {
-    let node = node_at(image, at);
-    match node {
-        Node::Plain(_) => above(Weight {
-            depth: 0,
-            visits: 0,
-        }),
-        Node::Bus(_) => above(Weight {
-            depth: 0,
-            visits: 0,
-        }),
-        Node::Once(_) => above(Weight {
-            depth: 0,
-            visits: 0,
-        }),
-        Node::Sequence(c) => above(over_children(image, c.place, c.count, n, depths, visits)),
-        Node::Branch(c) => above(over_children(image, c.place, c.count, n, depths, visits)),
-        Node::Loop(l) => above(over_turns(image, l, n, depths, visits)),
+    match node_at(image, at) {
+        Node::Plain(_) | Node::Bus(_) | Node::Once(_) => above(Weight::default()),
+        Node::Sequence(c) | Node::Branch(c) => above(over_children(image, c, n, known)),
+        Node::Loop(l) => above(over_turns(image, l, n, known)),
     }
 }
 
@@ -124,18 +77,9 @@ pub fn weights(image: &[u8], places: &[usize; 256], entry: usize) -> Weight
     requires { (Unclosed image.now (entry + 3)) × (Placed image.now (entry + 1) places.now) }
     ensures { Weighs image.now entry result }
 {
-    let mut depths = [0usize; 256];
-    let mut visits = [0usize; 256];
-    let mut n = 0;
-    while n <= entry {
-        let at = places[n];
-        let w = weight_of(image, at, n, &depths, &visits);
-        depths[n] = w.depth;
-        visits[n] = w.visits;
-        n += 1;
+    let mut known = [Weight::default(); 256];
+    for n in 0..=entry {
+        known[n] = weight_of(image, places[n], n, &known);
     }
-    Weight {
-        depth: depths[entry],
-        visits: visits[entry],
-    }
+    known[entry]
 }

@@ -9,33 +9,27 @@
 // The edit, and when it is possible, is in crate edits; the answer for an image and a table, and both demands, in crate answers.
 #![tactic(auto)]
 
-ghost use Rattle.std.specs.Prelude.{◌≡◌, ◌++◌, ◌+◌, ◌≤◌, length, drop};
+ghost use Rattle.std.specs.Prelude.{◌+◌, ◌≤◌, length};
 ghost use Rattle.image.specs.Conditions.{longest_image};
 ghost use Rattle.answers.specs.Promise.{Equal, Demand3, Demand2};
 ghost use Rattle.edits.specs.Edits.{with_durations};
 ghost use Rattle.previews.specs.Promise.{Previewing, PreviewGiven};
 ghost use Rattle.edits.specs.Steps.{Room};
 
-use answers::Answer;
-use edits::Found;
+use answers::Totals;
+use refusals::Refused;
 
 // No accepted image has more bytes (`longest_image`).
 const LONGEST: usize = 9265;
 
-// The first bytes of the copy take those of the image.
-fn fill(copy: &mut [u8], image: &[u8])
-    requires { length image.now ≤ length copy.old }
-    ensures { copy.new ≡ image.now ++ drop (length image.now) copy.old }
-{
-    let mut i: usize = 0;
-    while i < image.len() {
-        copy[i] = image[i];
-        i += 1;
-    }
-}
-
 // The figures of a copy of the image on which the durations of the block at a place are set.
-fn on_copy(image: &[u8], at: usize, lowest: usize, highest: usize, table: &mut [u64]) -> Answer
+fn on_copy(
+    image: &[u8],
+    at: usize,
+    lowest: usize,
+    highest: usize,
+    table: &mut [u64],
+) -> Result<Totals, Refused>
     requires { Room (length image.now) at lowest highest × (length image.now ≤ longest_image) }
     ensures equality { Equal (with_durations image.now (at + 3) lowest highest) table.old result table.new }
     ensures demand3 { Demand3 (with_durations image.now (at + 3) lowest highest) table.old result table.new }
@@ -43,7 +37,7 @@ fn on_copy(image: &[u8], at: usize, lowest: usize, highest: usize, table: &mut [
 {
     let n = image.len();
     let mut copy = [0u8; LONGEST];
-    fill(&mut copy, image);
+    copy[..n].copy_from_slice(image);
     edits::set_durations(&mut copy, at, lowest, highest);
     figures::figures(&copy[..n], table)
 }
@@ -55,13 +49,10 @@ pub fn preview(
     lowest: usize,
     highest: usize,
     table: &mut [u64],
-) -> Answer
+) -> Result<Totals, Refused>
     ensures equality { Previewing image.now node lowest highest table.old result table.new }
     ensures figures { PreviewGiven image.now node lowest highest table.old result table.new }
 {
-    let found = edits::find(image, node, lowest, highest);
-    match found {
-        Found::Refused(r, place) => Answer::Refused(r, place),
-        Found::At(at) => on_copy(image, at, lowest, highest, table),
-    }
+    let at = edits::find(image, node, lowest, highest)?;
+    on_copy(image, at, lowest, highest, table)
 }

@@ -1,9 +1,9 @@
 -- Inside a loop: what the unroller may be asked, and how its parts make the whole.
 use mathlib.Core.Path.{◌≡◌, refl, sym, ◌∙◌, ap, ap₂}
-use mathlib.Core.Bool.{Bool, false, ◌||◌}
+use mathlib.Core.Bool.{Bool, true, false, ◌||◌}
 use mathlib.Core.List.{List}
 use native.Mathlib.Omega.{arith}
-use native.Mathlib.Nat.{add-zero, mul-le-mul_left, mul-le-mul_right, add-mul, mul_left_comm, zero-mul, sub_self, not-suc-le-zero}
+use native.Mathlib.Nat.{add-zero, mul-le-mul_left, mul-le-mul_right, add-mul, mul_left_comm, zero-mul, sub_self}
 use Prim.Native.Nat.{ℕ, ◌+◌, ◌-◌, ◌*◌, ◌≤◌}
 use Rattle.runs.specs.Nodes.{Trees, visits, visits_all}
 use Rattle.runs.specs.Carried.{iterate, carried}
@@ -20,7 +20,8 @@ use Rattle.nodes.specs.Nodes.{tree_at, turn_trees}
 use Rattle.image.specs.declared.Walk.{Walk}
 use Rattle.nodes.specs.declared.Loop.{Loop}
 use Rattle.image.proofs.Walks.{walk_lawful, walk_small, turn_valid}
-use Rattle.cycles.proofs.Watching.{goes_none, goes_one, goes_both, whole, skips_small, skips_watches, skips_ends}
+use Rattle.cycles.specs.Cycles.{finds, length_of, gain_of, fresh}
+use Rattle.cycles.proofs.Watching.{goes_none, goes_one, goes_both, whole, skips_small, skips_ends, fresh_small, fresh_watches, off_watches}
 use Rattle.published.specs.declared.Outcome.{Outcome}
 use Rattle.published.specs.declared.Pass.{Pass}
 use Rattle.published.specs.declared.Turns.{Turns}
@@ -80,7 +81,7 @@ module _ (s : List ℕ) (k : Walk) (places : List ℕ) (body test left : ℕ) (t
   }
 
   -- no iteration: none is left, or a cycle is known
-  pub none_unrolls : (least : ℕ) → (t.watch.cycle ≡ 0 → left ≡ 0) → Unrolls k.bus xs least left t t
+  pub none_unrolls : (least : ℕ) → (finds t.watch.search ≡ false → left ≡ 0) → Unrolls k.bus xs least left t t
   none_unrolls least stop = record {
     goes = goes_none left t.watch r.small stop;
     unrolled = rw (sub_self t.watch.done) (none_left k.bus xs least t.watch.done t.pass r.within r.within_out);
@@ -99,7 +100,7 @@ module _ (s : List ℕ) (k : Walk) (places : List ℕ) (body test left : ℕ) (t
     pub one_asks : (t.watch.done ≤ 9999) × (t.kept.spent ≤ p.cost) × (p.cost ≤ 6553500000)
     one_asks = (omega (arith, r.many), omega (arith, r.spent, turned.costs), omega (arith, turned.costs, one_cheap e n step))
 
-    pub one_unrolls : t.watch.cycle ≡ 0 → (a : Turns) → WatchedBy p t.kept t.watch a → Unrolls k.bus xs least left t a
+    pub one_unrolls : finds t.watch.search ≡ false → (a : Turns) → WatchedBy p t.kept t.watch a → Unrolls k.bus xs least left t a
     one_unrolls none_yet a seen =
         let one : a.watch.done - t.watch.done ≡ 1 = omega (arith, seen.counts.done) in
         record {
@@ -175,11 +176,10 @@ module _ (s : List ℕ) (k : Walk) (places : List ℕ) (node : ℕ) (l : Loop) (
   begun = record {
     pass = p;
     kept = record { set = x₀; spent = 0 };
-    watch = record { done = 0; gap = 0; span = 1; cycle = 0; gain = 0 };
+    watch = fresh true;
   }
 
   pub begun_ready : ReadyLoop s k places l.body l.test l.greatest begun
-  unfolding iterate
   begun_ready = record {
     walkable = r.walkable;
     low = omega (arith, r.low, r.below);
@@ -189,8 +189,8 @@ module _ (s : List ℕ) (k : Walk) (places : List ℕ) (node : ℕ) (l : Loop) (
     within = g.within r.within;
     within_out = g.within_out r.within;
     spent = omega arith;
-    small = record { gap_most = omega arith; span_most = omega arith; cycle_most = omega arith; gain_most = omega arith };
-    watches = record { past = λ m. ap₂ pair g.begun.cur g.costs; cyclic = λ m. absurd (not-suc-le-zero m) };
+    small = fresh_small true;
+    watches = fresh_watches (next k.bus ys) charged _ _ true (λ e. ap₂ pair g.begun.cur g.costs);
   }
 
   module _ (a : Turns) (u : Unrolls k.bus ys l.least l.greatest begun a) where
@@ -222,32 +222,32 @@ module _ (s : List ℕ) (k : Walk) (places : List ℕ) (node : ℕ) (l : Loop) (
       abbrev n : ℕ
       n = e.skips.0
 
-      fits : n * a.watch.cycle ≤ l.greatest - a.watch.done
+      fits : n * length_of a.watch.search ≤ l.greatest - a.watch.done
       fits = whole (l.greatest - a.watch.done) a.watch n seen_ready.many e.skips.1.jumps
 
       pub skip_few : q.watch.done ≤ l.greatest
       skip_few = omega (arith, fits, e.skips.1.done, u.goes.most)
 
-      cycle : 1 ≤ n → Cyclic k.bus ys a.watch.cycle a.watch.gain (bits k.bus a.pass.cur)
-      cycle m = cyclic_of k.bus ys a.watch.cycle a.watch.gain _ (u.watches.cyclic (e.skips.1.jumps.room m).0)
+      cycle : 1 ≤ n → Cyclic k.bus ys (length_of a.watch.search) (gain_of a.watch.search) (bits k.bus a.pass.cur)
+      cycle m = cyclic_of k.bus ys (length_of a.watch.search) (gain_of a.watch.search) _ (u.watches.cyclic (e.skips.1.jumps.room m).0)
 
       -- the set behind the skipped cycles, and their cost
-      skip_set : iterate (after_all k.bus ys) (n * a.watch.cycle) (bits k.bus a.pass.cur) ≡ bits k.bus q.pass.cur
+      skip_set : iterate (after_all k.bus ys) (n * length_of a.watch.search) (bits k.bus a.pass.cur) ≡ bits k.bus q.pass.cur
       unfolding iterate
       skip_set =
           split 1 n
-          (λ m. multiple k.bus ys a.watch.cycle a.watch.gain _ (cycle m) n)
-          (λ m. let z : n ≡ 0 = omega arith in rw (z, zero-mul a.watch.cycle))
+          (λ m. multiple k.bus ys (length_of a.watch.search) (gain_of a.watch.search) _ (cycle m) n)
+          (λ m. let z : n ≡ 0 = omega arith in rw (z, zero-mul (length_of a.watch.search)))
           ∙ ap (bits k.bus) (sym e.cur)
 
-      paid : q.pass.cost ≡ a.pass.cost + sum (n * a.watch.cycle) (charge k.bus ys (bits k.bus a.pass.cur))
+      paid : q.pass.cost ≡ a.pass.cost + sum (n * length_of a.watch.search) (charge k.bus ys (bits k.bus a.pass.cur))
       unfolding sum
       paid =
           e.skips.2
           ∙ ap (λ (m : ℕ). a.pass.cost + m)
           (split 1 n
-          (λ m. sym (multiple_cost k.bus ys a.watch.cycle a.watch.gain _ (cycle m) n))
-          (λ m. let z : n ≡ 0 = omega arith in rw (z, zero-mul a.watch.gain, zero-mul a.watch.cycle)))
+          (λ m. sym (multiple_cost k.bus ys (length_of a.watch.search) (gain_of a.watch.search) _ (cycle m) n))
+          (λ m. let z : n ≡ 0 = omega arith in rw (z, zero-mul (gain_of a.watch.search), zero-mul (length_of a.watch.search))))
 
       pub rest_ready : ReadyLoop s k places l.body l.test (l.greatest - q.watch.done) q
       rest_ready = record {
@@ -256,27 +256,27 @@ module _ (s : List ℕ) (k : Walk) (places : List ℕ) (node : ℕ) (l : Loop) (
         low_test = seen_ready.low_test;
         many = omega (arith, r.many, skip_few);
         few =
-            later_few s k places l.body l.test (l.greatest - a.watch.done) a seen_ready (n * a.watch.cycle) (l.greatest - q.watch.done) q.pass.cost
+            later_few s k places l.body l.test (l.greatest - a.watch.done) a seen_ready (n * length_of a.watch.search) (l.greatest - q.watch.done) q.pass.cost
             (omega (arith, fits, e.skips.1.done)) paid;
         within = rw e.cur u.unrolled.within;
         within_out = rw e.out u.unrolled.within_out;
         spent = rw e.kept (omega (arith, u.spent, e.skips.2));
         small = skips_small _ a.watch n q.watch e.skips.1;
-        watches = skips_watches (next k.bus ys) charged _ a.watch n q.watch e.skips.1 _ _;
+        watches = off_watches (next k.bus ys) charged _ _ q.watch e.skips.1.off;
       }
 
       -- unrolling the rest is unrolling all that was left
-      skip_unrolled : (w : Pass) → UnrolledAt k.bus ys l.least (a.watch.done + n * a.watch.cycle) (l.greatest - a.watch.done - n * a.watch.cycle) q.pass w
+      skip_unrolled : (w : Pass) → UnrolledAt k.bus ys l.least (a.watch.done + n * length_of a.watch.search) (l.greatest - a.watch.done - n * length_of a.watch.search) q.pass w
           → UnrolledAt k.bus ys l.least a.watch.done (l.greatest - a.watch.done) a.pass w
       skip_unrolled w v = record {
         unrolled =
             split 1 n
             (λ m. let j = e.skips.1.jumps.room m in
-            unrolled_skip k.bus ys k.bus.period a.watch.cycle a.watch.gain _ (cycle m) j.0 l.least a.watch.done
+            unrolled_skip k.bus ys k.bus.period (length_of a.watch.search) (gain_of a.watch.search) _ (cycle m) j.0 l.least a.watch.done
             (l.greatest - a.watch.done) n j.1 _ _ _
             (same_from k.bus ys l.least _ _ _ _ _ _ _ _ _ _ refl refl (ap (bits k.bus) e.cur) (ap (bits k.bus) e.out) v.unrolled))
             (λ m. let z : n ≡ 0 = omega arith in
-            let none : n * a.watch.cycle ≡ 0 = rw z (zero-mul a.watch.cycle) in
+            let none : n * length_of a.watch.search ≡ 0 = rw z (zero-mul (length_of a.watch.search)) in
             same_from k.bus ys l.least _ _ _ _ _ _ _ _ _ _ (omega arith) (omega arith) (ap (bits k.bus) e.cur) (ap (bits k.bus) e.out) v.unrolled);
         within = v.within;
         within_out = v.within_out;
@@ -285,7 +285,7 @@ module _ (s : List ℕ) (k : Walk) (places : List ℕ) (node : ℕ) (l : Loop) (
         where
           costs : w.cost ≡ a.pass.cost + sum (l.greatest - a.watch.done) (charge k.bus ys (bits k.bus a.pass.cur))
           costs =
-              let m = n * a.watch.cycle in
+              let m = n * length_of a.watch.search in
               let o = l.greatest - a.watch.done in
               let parts : sum (m + (o - m)) (charge k.bus ys (bits k.bus a.pass.cur))
               ≡ sum m (charge k.bus ys (bits k.bus a.pass.cur)) + sum (o - m) (λ i. charge k.bus ys (bits k.bus a.pass.cur) (m + i)) =
@@ -304,7 +304,7 @@ module _ (s : List ℕ) (k : Walk) (places : List ℕ) (node : ℕ) (l : Loop) (
           → Repeated k.bus ys l.least l.greatest x₀ (record { cost = z.pass.cost; exits = z.pass.out })
       repeat_published z v =
           let ends : z.watch.done ≡ q.watch.done + (l.greatest - q.watch.done) = skips_ends _ a.watch n q.watch e.skips.1 _ z.watch v.goes in
-          let left : z.watch.done - q.watch.done ≡ l.greatest - a.watch.done - n * a.watch.cycle = omega (arith, ends, e.skips.1.done, skip_few) in
+          let left : z.watch.done - q.watch.done ≡ l.greatest - a.watch.done - n * length_of a.watch.search = omega (arith, ends, e.skips.1.done, skip_few) in
           let rest = skip_unrolled z.pass (counted z.pass q.watch.done _ (z.watch.done - q.watch.done) _ e.skips.1.done left v.unrolled) in
           let whole-count : (a.watch.done - 0) + (l.greatest - a.watch.done) ≡ l.greatest = omega (arith, u.goes.most) in
           let from : 0 + (a.watch.done - 0) ≡ a.watch.done = omega arith in

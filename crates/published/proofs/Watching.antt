@@ -6,7 +6,6 @@ use mathlib.Core.List.{List}
 use lib.ListN.{get_or}
 use native.Mathlib.Omega.{arith}
 use native.Mathlib.Nat.{le_refl, zero-mul, suc-mul, add-zero}
-use native.Mathlib.Decide.{ℕ_discrete}
 use Prim.Native.Nat.{ℕ, zero, suc, ◌+◌, ◌-◌, ◌*◌, ◌≤◌}
 use Rattle.runs.specs.Nodes.{Trees}
 use Rattle.runs.specs.Carried.{row, iterate}
@@ -19,7 +18,7 @@ use Rattle.bus.specs.Owning.{bus_meant}
 use Rattle.offsets.specs.declared.Set.{Set}
 use Rattle.offsets.specs.Sets.{value, has}
 use Rattle.exits.specs.Exits.{bits_of}
-use Rattle.cycles.specs.Cycles.{Seen}
+use Rattle.cycles.specs.Cycles.{renews, Seen}
 use Rattle.cycles.specs.declared.Watch.{Watch}
 use Rattle.cycles.proofs.Watching.{watches_next}
 use Rattle.published.specs.declared.Pass.{Pass}
@@ -97,18 +96,22 @@ module _ (b : Bus) (xs : Trees) where
 
 -- ---- one more iteration
 
--- what is kept then is where the loop stands or what was kept, by the gap
+-- what is kept then is where the loop stands or what was kept, as the watch says
 pub watched_by : (p : Pass) (kept kept' : Kept) (w : Watch) (same : Bool) (v : Watch) → kept.spent ≤ p.cost → Seen w same (p.cost - kept.spent) v
-    → (same ≡ true → value p.cur ≡ value kept.set) → (v.gap ≡ 0 → kept' ≡ record { set = p.cur; spent = p.cost }) → (¬ (v.gap ≡ 0) → kept' ≡ kept)
-    → WatchedBy p kept w (record { pass = p; kept = kept'; watch = v })
+    → (same ≡ true → value p.cur ≡ value kept.set) → (renews v.search ≡ true → kept' ≡ record { set = p.cur; spent = p.cost })
+    → (renews v.search ≡ false → kept' ≡ kept) → WatchedBy p kept w (record { pass = p; kept = kept'; watch = v })
 watched_by p kept kept' w same v less seen is renewed stays = record {
   pass = refl;
   counts = seen.counts;
-  spent = elim (ℕ_discrete v.gap 0) [ yes e ↦ rw (renewed e) (le_refl p.cost) | no n ↦ rw (stays n) less ];
+  spent = spent (renews v.search) refl;
   watches = λ b xs C h s.
       watches_next (next b xs) charged (commutes b xs) w same (p.cost - kept.spent) v seen C (state b kept.set kept.spent) (state b p.cur p.cost)
       (state b kept'.set kept'.spent) h s
       (λ t. let total : p.cost ≡ kept.spent + (p.cost - kept.spent) = omega arith in
       ap₂ pair (same_bits b p.cur kept.set (is t)) total)
-      (λ e. ap (λ (y : Kept). state b y.set y.spent) (renewed e)) (λ n. ap (λ (y : Kept). state b y.set y.spent) (stays n));
+      (λ e. ap (λ (y : Kept). state b y.set y.spent) (renewed e)) (λ e. ap (λ (y : Kept). state b y.set y.spent) (stays e));
 }
+  where
+    spent : (t : Bool) → renews v.search ≡ t → kept'.spent ≤ p.cost
+    spent true e = rw (renewed e) (le_refl p.cost)
+    spent false e = rw (stays e) less

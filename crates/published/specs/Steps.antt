@@ -12,7 +12,7 @@ use Rattle.nodes.specs.Nodes.{tree_at, child_trees, turn_trees}
 use Rattle.image.specs.Walks.{Walkable, NamedChildren}
 use Rattle.image.specs.declared.Walk.{Walk}
 use Rattle.nodes.specs.declared.Loop.{Loop}
-use Rattle.cycles.specs.Cycles.{Small, Counts, Goes, Skips, Watches}
+use Rattle.cycles.specs.Cycles.{gain_of, Small, Counts, Goes, Skips, Watches}
 use Rattle.cycles.specs.declared.Watch.{Watch}
 use Rattle.exits.specs.Exits.{bits_of, Within, Exited}
 use Rattle.published.specs.declared.Outcome.{Outcome}
@@ -153,7 +153,7 @@ pub record SkippedBy (left : ℕ) (t r : Turns) : Type 0 where
   pub cur : r.pass.cur ≡ t.pass.cur
   pub out : r.pass.out ≡ t.pass.out
   pub kept : r.kept ≡ t.kept
-  pub skips : (n : ℕ) × Skips left t.watch n r.watch × (r.pass.cost ≡ t.pass.cost + n * t.watch.gain)
+  pub skips : (n : ℕ) × Skips left t.watch n r.watch × (r.pass.cost ≡ t.pass.cost + n * gain_of t.watch.search)
 
 -- `left` iterations of a loop are to come
 pub record ReadyLoop (s : List ℕ) (k : Walk) (places : List ℕ) (body test left : ℕ) (t : Turns) : Type 0 where

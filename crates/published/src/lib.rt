@@ -5,11 +5,11 @@
 // The node number falls at each descent. A loop is its test, and then iterations of body and test (document 02, W3); where it is unrolled, the
 // pair of the larger of their numbers and the iterations left falls: the iterations are taken in two halves, so the stack grows with the
 // logarithm of the count.
-// A loop whose exit sets have become periodic (after `cycle` iterations the set is the same again, and they cost `gain`) is not walked to its
+// A loop whose exit sets have become periodic (after some iterations the set is the same again, and they cost one gain) is not walked to its
 // end: the unroller stops there, whole cycles are skipped, and the rest is walked.
 #![tactic(auto)]
 
-ghost use Rattle.std.specs.Prelude.{◌≡◌, ◌+◌, ◌≤◌, max};
+ghost use Rattle.std.specs.Prelude.{◌≡◌, ◌+◌, ◌≤◌};
 ghost use Rattle.runs.specs.Nodes.{Tree, visits};
 ghost use Rattle.bus.specs.declared.Bus.{Bus};
 ghost use Rattle.nodes.specs.Nodes.{tree_at, child_trees, turn_trees, kind_meant};
@@ -18,8 +18,8 @@ ghost use Rattle.cycles.specs.Cycles.{Small};
 ghost use Rattle.published.specs.Steps.{Ready, ReadyAll, ReadyTurn, ReadyRepeat, ReadyLoop, Published, PublishedAll, PublishedAny, Repeated, BegunAt, TurnedAt, WatchedBy, SkippedBy, Unrolls};
 
 use bus::Bus;
-use cycles::Watch;
-use image::Walk;
+use cycles::{Search, Watch};
+use image::Task;
 use nodes::{BusBlock, Children, Kind, Loop, Node, Once, Plain};
 use offsets::Set;
 
@@ -92,7 +92,7 @@ fn once_outcome(b: Bus, x: Once, s: Set) -> Outcome
     let missed = exits::access_exits(b, x.lowest, x.highest, s);
     let hit = exits::plain_exits(b, x.hit, x.hit, s);
     Outcome {
-        cost: larger(cost, x.hit as u64),
+        cost: cost.max(x.hit as u64),
         exits: offsets::join(missed, hit),
     }
 }
@@ -142,17 +142,14 @@ fn watched(p: Pass, kept: Kept, w: Watch) -> Turns
     requires { (w.done ≤ 9999) × Small w × (kept.spent ≤ p.cost) × (p.cost ≤ 6553500000) }
     ensures { WatchedBy p kept w result }
 {
-    let cur = p.cur;
-    let cost = p.cost;
-    let gain = cost - kept.spent;
-    let same = offsets::same(cur, kept.set);
-    let watch = cycles::seen(w, same, gain as usize);
-    if watch.gap == 0 {
+    let same = p.cur == kept.set;
+    let watch = cycles::seen(w, same, (p.cost - kept.spent) as usize);
+    if watch.is_due() {
         return Turns {
             pass: p,
             kept: Kept {
-                set: cur,
-                spent: cost,
+                set: p.cur,
+                spent: p.cost,
             },
             watch,
         };
@@ -170,111 +167,95 @@ fn skipped(left: usize, t: Turns) -> Turns
     ensures { SkippedBy left t result }
 {
     let w = t.watch;
-    let p = t.pass;
-    let kept = t.kept;
-    let n = cycles::jumps(w.cycle, left);
-    let cur = p.cur;
-    let out = p.out;
-    Turns {
-        pass: Pass {
-            cur,
-            out,
-            cost: p.cost + (n * w.gain) as u64,
-        },
-        kept,
-        watch: Watch {
-            done: w.done + n * w.cycle,
-            gap: 0,
-            span: 0,
-            cycle: 0,
-            gain: 0,
+    match w.search {
+        Search::Found(c) => {
+            let n = cycles::jumps(c.length, left);
+            let cost = t.pass.cost + (n * c.gain) as u64;
+            Turns {
+                pass: Pass { cost, ..t.pass },
+                watch: Watch {
+                    done: w.done + n * c.length,
+                    search: Search::Off,
+                },
+                ..t
+            }
+        }
+        _ => Turns {
+            watch: Watch {
+                search: Search::Off,
+                ..w
+            },
+            ..t
         },
     }
 }
 
-fn larger(a: u64, b: u64) -> u64
-    ensures { result ≡ max a b }
-{
-    if a < b { b } else { a }
-}
-
 // The outcome of a node entered with the offsets of s.
 #[cycle(walk)]
-pub fn walk(image: &[u8], places: &[usize; 256], k: Walk, node: usize, s: Set) -> Outcome
-    requires { Ready image.now k places.now node s }
-    ensures { Published k.bus (tree_at image.now node) s result }
+pub fn walk(task: &Task, node: usize, s: Set) -> Outcome
+    requires { Ready task.now.image.now task.now.walk task.now.places.now node s }
+    ensures { Published task.now.walk.bus (tree_at task.now.image.now node) s result }
 {
-    let at = places[node];
-    let n = nodes::node_at(image, at);
-    let b = k.bus;
+    let at = task.places[node];
+    let n = nodes::node_at(task.image, at);
+    let b = task.walk.bus;
     match n {
         Node::Plain(p) => plain_outcome(b, p, s),
         Node::Bus(x) => block_outcome(b, x, s),
         Node::Once(x) => once_outcome(b, x, s),
-        Node::Sequence(c) => sequence(image, places, k, node, c, s),
-        Node::Branch(c) => branch(image, places, k, node, c, s),
-        Node::Loop(l) => repeat(image, places, k, node, l, s),
+        Node::Sequence(c) => sequence(task, node, c, s),
+        Node::Branch(c) => branch(task, node, c, s),
+        Node::Loop(l) => repeat(task, node, l, s),
     }
 }
 
 // The children in order: costs add, and each starts from the exits of the one before.
 #[cycle(walk)]
-fn sequence(
-    image: &[u8],
-    places: &[usize; 256],
-    k: Walk,
-    node: usize,
-    c: Children,
-    s: Set,
-) -> Outcome
-    requires { ReadyAll image.now k places.now node c.place c.count s }
-    ensures { PublishedAll k.bus (child_trees image.now c.place c.count) s result }
+fn sequence(task: &Task, node: usize, c: Children, s: Set) -> Outcome
+    requires { ReadyAll task.now.image.now task.now.walk task.now.places.now node c.place c.count s }
+    ensures { PublishedAll task.now.walk.bus (child_trees task.now.image.now c.place c.count) s result }
 {
     let place = c.place;
     let count = c.count;
     let mut cost = 0;
     let mut cur = s;
-    let mut i = 0;
-    while i < count {
-        let child = image_bytes::word(image, place + 2 * i);
-        let next = walk(image, places, k, child, cur);
+    for i in 0..count {
+        let child = image_bytes::word(task.image, place + 2 * i);
+        let next = walk(task, child, cur);
         cost += next.cost;
         cur = next.exits;
-        i += 1;
     }
     Outcome { cost, exits: cur }
 }
 
 // Any one of the children: the largest cost, and the exits joined.
 #[cycle(walk)]
-fn branch(image: &[u8], places: &[usize; 256], k: Walk, node: usize, c: Children, s: Set) -> Outcome
-    requires { ReadyAll image.now k places.now node c.place c.count s }
-    ensures { PublishedAny k.bus (child_trees image.now c.place c.count) s result }
+fn branch(task: &Task, node: usize, c: Children, s: Set) -> Outcome
+    requires { ReadyAll task.now.image.now task.now.walk task.now.places.now node c.place c.count s }
+    ensures { PublishedAny task.now.walk.bus (child_trees task.now.image.now c.place c.count) s result }
 {
     let place = c.place;
     let count = c.count;
-    let mut cost = 0;
+    let mut cost: u64 = 0;
     let mut out = offsets::empty();
-    let mut i = 0;
-    while i < count {
-        let child = image_bytes::word(image, place + 2 * i);
-        let arm = walk(image, places, k, child, s);
-        cost = larger(cost, arm.cost);
+    for i in 0..count {
+        let child = image_bytes::word(task.image, place + 2 * i);
+        let arm = walk(task, child, s);
+        cost = cost.max(arm.cost);
         out = offsets::join(out, arm.exits);
-        i += 1;
     }
     Outcome { cost, exits: out }
 }
 
 // A loop: the test comes first, and then the iterations, a test after each.
 #[cycle(walk)]
-fn repeat(image: &[u8], places: &[usize; 256], k: Walk, node: usize, l: Loop, s: Set) -> Outcome
-    requires { ReadyRepeat image.now k places.now node l (visits (tree_at image.now l.test)) s }
-    ensures { Published k.bus (Tree.loop l.least l.greatest (tree_at image.now l.body) (tree_at image.now l.test)) s result }
+fn repeat(task: &Task, node: usize, l: Loop, s: Set) -> Outcome
+    requires { ReadyRepeat task.now.image.now task.now.walk task.now.places.now node l (visits (tree_at task.now.image.now l.test)) s }
+    ensures { Published task.now.walk.bus (Tree.loop l.least l.greatest (tree_at task.now.image.now l.body) (tree_at task.now.image.now l.test)) s result }
 {
-    let first = walk(image, places, k, l.test, s);
+    let first = walk(task, l.test, s);
     let cur = first.exits;
-    let rest = iterations(image, places, k, node, l, cur);
+    let rest = iterations(task, node, l, cur);
     let exits = rest.exits;
     Outcome {
         cost: first.cost + rest.cost,
@@ -284,35 +265,20 @@ fn repeat(image: &[u8], places: &[usize; 256], k: Walk, node: usize, l: Loop, s:
 
 // The iterations: unrolled until a cycle is found or all is done, whole cycles skipped, and the rest unrolled.
 #[cycle(walk)]
-fn iterations(image: &[u8], places: &[usize; 256], k: Walk, node: usize, l: Loop, s: Set) -> Outcome
-    requires { ReadyRepeat image.now k places.now node l 0 s }
-    ensures { Repeated k.bus (turn_trees image.now l.body l.test) l.least l.greatest s result }
+fn iterations(task: &Task, node: usize, l: Loop, s: Set) -> Outcome
+    requires { ReadyRepeat task.now.image.now task.now.walk task.now.places.now node l 0 s }
+    ensures { Repeated task.now.walk.bus (turn_trees task.now.image.now l.body l.test) l.least l.greatest s result }
 {
     let begun = Turns {
         pass: before_first(l.least, s),
         kept: Kept { set: s, spent: 0 },
-        watch: Watch {
-            done: 0,
-            gap: 0,
-            span: 1,
-            cycle: 0,
-            gain: 0,
-        },
+        watch: Watch::begun(true),
     };
-    let seen = unroll(image, places, k, l.body, l.test, l.least, l.greatest, begun);
+    let seen = unroll(task, l.body, l.test, l.least, l.greatest, begun);
     let w = seen.watch;
     let rest = skipped(l.greatest - w.done, seen);
     let v = rest.watch;
-    let all = unroll(
-        image,
-        places,
-        k,
-        l.body,
-        l.test,
-        l.least,
-        l.greatest - v.done,
-        rest,
-    );
+    let all = unroll(task, l.body, l.test, l.least, l.greatest - v.done, rest);
     let pass = all.pass;
     let exits = pass.out;
     Outcome {
@@ -323,20 +289,13 @@ fn iterations(image: &[u8], places: &[usize; 256], k: Walk, node: usize, l: Loop
 
 // One iteration: the body, and the test that follows it.
 #[cycle(walk)]
-fn iteration(
-    image: &[u8],
-    places: &[usize; 256],
-    k: Walk,
-    body: usize,
-    test: usize,
-    s: Set,
-) -> Outcome
-    requires { ReadyTurn image.now k places.now body test s }
-    ensures { PublishedAll k.bus (turn_trees image.now body test) s result }
+fn iteration(task: &Task, body: usize, test: usize, s: Set) -> Outcome
+    requires { ReadyTurn task.now.image.now task.now.walk task.now.places.now body test s }
+    ensures { PublishedAll task.now.walk.bus (turn_trees task.now.image.now body test) s result }
 {
-    let first = walk(image, places, k, body, s);
+    let first = walk(task, body, s);
     let cur = first.exits;
-    let then = walk(image, places, k, test, cur);
+    let then = walk(task, test, cur);
     let exits = then.exits;
     Outcome {
         cost: first.cost + then.cost,
@@ -346,34 +305,25 @@ fn iteration(
 
 // `left` iterations more, as two halves; none once a cycle is found.
 #[cycle(walk)]
-fn unroll(
-    image: &[u8],
-    places: &[usize; 256],
-    k: Walk,
-    body: usize,
-    test: usize,
-    least: usize,
-    left: usize,
-    t: Turns,
-) -> Turns
-    requires { ReadyLoop image.now k places.now body test left t }
-    ensures { Unrolls k.bus (turn_trees image.now body test) least left t result }
+fn unroll(task: &Task, body: usize, test: usize, least: usize, left: usize, t: Turns) -> Turns
+    requires { ReadyLoop task.now.image.now task.now.walk task.now.places.now body test left t }
+    ensures { Unrolls task.now.walk.bus (turn_trees task.now.image.now body test) least left t result }
 {
     let w = t.watch;
     if left == 0 {
         return t;
     }
-    if 0 < w.cycle {
+    if w.has_cycle() {
         return t;
     }
     if left == 1 {
         let p = t.pass;
         let kept = t.kept;
         let cur = p.cur;
-        let next = iteration(image, places, k, body, test, cur);
+        let next = iteration(task, body, test, cur);
         return watched(joined(least, w.done, p, next), kept, w);
     }
     let half = left / 2;
-    let a = unroll(image, places, k, body, test, least, half, t);
-    unroll(image, places, k, body, test, least, left - half, a)
+    let a = unroll(task, body, test, least, half, t);
+    unroll(task, body, test, least, left - half, a)
 }

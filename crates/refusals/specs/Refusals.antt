@@ -2,6 +2,7 @@
 use Rattle.std.specs.Prelude.{ℕ}
 use Prim.Native.String.{String}
 use Rattle.refusals.specs.declared.Refusal.{Refusal}
+use Rattle.refusals.specs.declared.Refused.{Refused}
 use Rattle.refusals.specs.declared.Refusal.TheVariants.{Cut, Tag, Full, Length, Value, Forward, Unfinished, Deep, Long, Table, Entry, Register, Busy, Forbidden, Lines, Block}
 
 -- "Number"; those above 10 are new numbers of document 02
@@ -41,3 +42,7 @@ word_of Busy = "busy"
 word_of Forbidden = "forbidden"
 word_of Lines = "lines"
 word_of Block = "block"
+
+-- a refusal at a place
+abbrev pub refused_at : Refusal → ℕ → Refused
+refused_at r place = record { refusal = r; place = place }

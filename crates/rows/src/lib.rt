@@ -11,27 +11,22 @@ ghost use Rattle.schedule.specs.Said.{Ranged};
 ghost use Rattle.rows.specs.Tests.{parity_within, tag_ok, room_ok, node_length_ok, length_ok, starts_ok, plain_ok, access_ok, block_ok, once_ok, loop_ok, node_value_ok, value_ok, below, children_ok, entry_ok};
 
 use image_bytes::{byte, word};
-use schedule::{between, bus_ok, most_at, period_at, schedule_ok};
+use schedule::{bus_ok, most_at, period_at, schedule_ok};
 
 // Is n from low to high, and even, or odd where `odd` is 1?
 fn parity_between(odd: usize, low: usize, high: usize, n: usize) -> bool
     ensures { result ≡ parity_within odd low high n }
 {
-    if between(low, high, n) {
-        return n % 2 == odd;
-    }
-    false
+    (low..=high).contains(&n) && n % 2 == odd
 }
 
 // May a field of this tag stand there, `index` fields standing before it, the last of which has closed the image or not?
+#[tactic(auto, unfolding(crate::specs::Tests::tag_ok))]
 pub fn tag_ok(index: usize, closed: bool, tag: usize) -> bool
     ensures { result ≡ tag_ok index closed tag }
 {
     if index == 0 {
-        if tag == 9 {
-            return true;
-        }
-        return tag == 1;
+        return tag == 1 || tag == 9;
     }
     if index == 1 {
         return tag == 2;
@@ -39,10 +34,10 @@ pub fn tag_ok(index: usize, closed: bool, tag: usize) -> bool
     if closed {
         return false;
     }
+    // Here and below the tag stays a number: as a rule of the project has it, a task image is judged by a match on it, with ranges for node tags.
     match tag {
         8 => 3 <= index,
-        10 => true,
-        3..=7 => true,
+        3..=7 | 10 => true,
         _ => false,
     }
 }
@@ -52,13 +47,11 @@ pub fn tag_ok(index: usize, closed: bool, tag: usize) -> bool
 pub fn room_ok(index: usize, tag: usize) -> bool
     ensures { result ≡ room_ok index tag }
 {
-    if index < 258 {
-        return true;
-    }
-    tag == 8
+    index < 258 || tag == 8
 }
 
 // Is a node body's length in the tag's row?
+#[tactic(auto, unfolding(crate::specs::Tests::node_length_ok))]
 fn node_length_ok(tag: usize, len: usize) -> bool
     ensures { result ≡ node_length_ok tag len }
 {
@@ -73,12 +66,13 @@ fn node_length_ok(tag: usize, len: usize) -> bool
 }
 
 // Is the body's length in the tag's row?
+#[tactic(auto, unfolding(crate::specs::Tests::length_ok))]
 pub fn length_ok(tag: usize, len: usize) -> bool
     ensures { result ≡ length_ok tag len }
 {
     match tag {
         1 => len == 3,
-        2 => between(1, 256, len),
+        2 => (1..=256).contains(&len),
         3..=7 => node_length_ok(tag, len),
         8 => len == 2,
         9 => parity_between(1, 3, 65, len),
@@ -93,81 +87,55 @@ fn starts_ok(image: &[u8], place: usize, count: usize, period: usize) -> bool
     ensures { result ≡ starts_ok image.now place count 0 period }
 {
     let mut least = 0;
-    let mut i = 0;
-    while i < count {
+    for i in 0..count {
         let start = byte(image, place + i);
-        if start < least {
-            return false;
-        }
-        if period <= start {
+        if start < least || period <= start {
             return false;
         }
         least = start + 1;
-        i += 1;
     }
     true
 }
 
 // May a plain block have these durations? Any numbers may be asked about: an edit's are as they are given, and need not fit two bytes.
+#[tactic(auto, unfolding(crate::specs::Tests::plain_ok))]
 pub fn plain_ok(lowest: usize, highest: usize) -> bool
     ensures { result ≡ plain_ok lowest highest }
 {
-    if 65535 < highest {
-        return false;
-    }
-    if highest < lowest {
-        return false;
-    }
-    highest - lowest <= 63
+    highest <= 65535 && lowest <= highest && highest - lowest <= 63
 }
 
 // May an access have these durations?
+#[tactic(auto, unfolding(crate::specs::Tests::access_ok))]
 fn access_ok(lowest: usize, highest: usize, most: usize) -> bool
     ensures { result ≡ access_ok lowest highest most }
 {
-    if lowest < 1 {
-        return false;
-    }
-    if highest < lowest {
-        return false;
-    }
-    if 255 < highest {
-        return false;
-    }
-    highest <= most
+    1 <= lowest && lowest <= highest && highest <= 255 && highest <= most
 }
 
+#[tactic(auto, unfolding(crate::specs::Tests::block_ok))]
 fn block_ok(kind: usize, lowest: usize, highest: usize, most: usize) -> bool
     ensures { result ≡ block_ok kind lowest highest most }
 {
-    if !between(1, 2, kind) {
-        return false;
-    }
-    access_ok(lowest, highest, most)
+    (1..=2).contains(&kind) && access_ok(lowest, highest, most)
 }
 
+#[tactic(auto, unfolding(crate::specs::Tests::once_ok))]
 fn once_ok(line: usize, lowest: usize, highest: usize, hit: usize, most: usize) -> bool
     ensures { result ≡ once_ok line lowest highest hit most }
 {
-    if 3 < line {
-        return false;
-    }
-    if 65535 < hit {
-        return false;
-    }
-    access_ok(lowest, highest, most)
+    line <= 3 && hit <= 65535 && access_ok(lowest, highest, most)
 }
 
+#[tactic(auto, unfolding(crate::specs::Tests::loop_ok))]
 fn loop_ok(least: usize, greatest: usize) -> bool
     ensures { result ≡ loop_ok least greatest }
 {
-    if greatest < least {
-        return false;
-    }
-    greatest <= 10000
+    least <= greatest && greatest <= 10000
 }
 
 // Do a node body's numbers keep the rules of the tag's row? Child numbers are left to `children_ok`.
+#[tactic(auto, unfolding(crate::specs::Tests::node_value_ok))]
 fn node_value_ok(image: &[u8], tag: usize, body: usize) -> bool
     requires { (body + 6 < 18446744073709551615) × Ranged image.now }
     ensures { result ≡ node_value_ok image.now tag body }
@@ -186,7 +154,9 @@ fn node_value_ok(image: &[u8], tag: usize, body: usize) -> bool
     }
 }
 
-// Do the body's numbers keep the rules of the tag's row? The body of `len` bytes stands at `body`.
+// Do the body's numbers keep the rules of the tag's row? The body of `len` bytes stands at `body`. Tag, place and length stay three numbers: a struct of
+// them would be no plainer, since hardly two of these tests take the same ones.
+#[tactic(auto, unfolding(crate::specs::Tests::value_ok))]
 pub fn value_ok(image: &[u8], tag: usize, body: usize, len: usize) -> bool
     requires { (body + len < 18446744073709551615) × (body + 6 < 18446744073709551615) × (¬ (tag ≡ 1) → ¬ (tag ≡ 9) → Ranged image.now) }
     ensures { result ≡ value_ok image.now tag body len }
@@ -217,17 +187,17 @@ fn all_below(image: &[u8], place: usize, count: usize, index: usize) -> bool
     requires { place + 2 * count < 18446744073709551615 }
     ensures { result ≡ below image.now place count index }
 {
-    let mut i = 0;
-    while i < count {
+    // A `for` and not `all` over the range: tried, and the proof did not close.
+    for i in 0..count {
         if index <= word(image, place + 2 * i) + 2 {
             return false;
         }
-        i += 1;
     }
     true
 }
 
 // Are the body's child numbers below that of the node, which is field `index`?
+#[tactic(auto, unfolding(crate::specs::Tests::children_ok))]
 pub fn children_ok(image: &[u8], tag: usize, body: usize, len: usize, index: usize) -> bool
     requires { (body + len < 18446744073709551615) × (body + 8 < 18446744073709551615) }
     ensures { result ≡ children_ok image.now tag body len index }
@@ -240,6 +210,7 @@ pub fn children_ok(image: &[u8], tag: usize, body: usize, len: usize, index: usi
 }
 
 // Is the entry, where the body names it, a node that stands before this field, which is field `index`?
+#[tactic(auto, unfolding(crate::specs::Tests::entry_ok))]
 pub fn entry_ok(image: &[u8], tag: usize, body: usize, index: usize) -> bool
     requires { body + 6 < 18446744073709551615 }
     ensures { result ≡ entry_ok image.now tag body index }

@@ -30,26 +30,15 @@ pub struct Divided {
 pub fn between(low: usize, high: usize, n: usize) -> bool
     ensures { result ≡ within low high n }
 {
-    if low <= n {
-        return n <= high;
-    }
-    false
+    (low..=high).contains(&n)
 }
 
 // Are these numbers of a bus in the ranges of tag 1? Any numbers may be asked about: a reset of the arbiter passes on what it is given.
+#[tactic(auto, unfolding(crate::specs::Said::bus_ok))]
 pub fn bus_ok(cores: usize, slot: usize, core: usize) -> bool
     ensures { result ≡ bus_ok cores slot core }
 {
-    if !between(2, 16, cores) {
-        return false;
-    }
-    if !between(1, 128, slot) {
-        return false;
-    }
-    if cores <= core {
-        return false;
-    }
-    cores * slot <= 256
+    between(2, 16, cores) && between(1, 128, slot) && core < cores && cores * slot <= 256
 }
 
 // Does a schedule in a body of `len` bytes keep the rules of tag 9?
@@ -60,8 +49,7 @@ pub fn schedule_ok(image: &[u8], body: usize, len: usize) -> bool
     let core = byte(image, body);
     let mut found = false;
     let mut sum = 0;
-    let mut i = 0;
-    while i < len / 2 {
+    for i in 0..len / 2 {
         let place = body + 1 + 2 * i;
         let owner = byte(image, place);
         let slot = byte(image, place + 1);
@@ -78,7 +66,6 @@ pub fn schedule_ok(image: &[u8], body: usize, len: usize) -> bool
         if owner == core {
             found = true;
         }
-        i += 1;
     }
     found
 }
@@ -89,10 +76,8 @@ fn sum_of(image: &[u8], place: usize, pairs: usize) -> usize
     ensures { result ≡ total (turns_at image.now place pairs) }
 {
     let mut sum = 0;
-    let mut i = 0;
-    while i < pairs {
+    for i in 0..pairs {
         sum += byte(image, place + 2 * i + 1);
-        i += 1;
     }
     sum
 }
@@ -128,8 +113,7 @@ fn divide(image: &[u8]) -> Divided
     let mut own = offsets::empty();
     let mut rest = offsets::empty();
     let mut at = 0;
-    let mut i = 0;
-    while i < pairs {
+    for i in 0..pairs {
         let owner = byte(image, 4 + 2 * i);
         let slot = byte(image, 4 + 2 * i + 1);
         let cycles = offsets::up(offsets::below(slot as u64), at as u64);
@@ -137,7 +121,6 @@ fn divide(image: &[u8]) -> Divided
         own = offsets::join(own, only_if(mine, cycles));
         rest = offsets::join(rest, only_if(!mine, cycles));
         at += slot;
-        i += 1;
     }
     Divided {
         own,

@@ -7,7 +7,7 @@
 
 ghost use Rattle.std.specs.Prelude.{◌≡◌, length, get_or, ◌-◌, ◌<◌, ◌≤◌};
 ghost use Rattle.bus.specs.Owning.{owns, Fit};
-ghost use Rattle.times.specs.Arrays.{Fits};
+ghost use Rattle.times.specs.Arrays.{Fits, Row};
 ghost use Rattle.windows.specs.Windows.{Same};
 ghost use Rattle.starting.specs.Starting.{KeyedIn, NowIn, StartedAll};
 
@@ -15,17 +15,15 @@ use bus::Bus;
 
 // The keys of the len entries from a on, round the period, in the first places of k and of w.
 fn keys_in(t: &[u64], k: &mut [u64; 256], w: &mut [u64; 256], period: usize, a: usize, len: usize)
-    requires { (a < period) × (period ≤ 256) × (len ≤ 256) × Fits period t.now × (length k.old ≡ 256) × (length w.old ≡ 256) × (period ≤ length t.now) }
+    requires { (a < period) × Row period t.now × (len ≤ 256) × (length k.old ≡ 256) × (length w.old ≡ 256) }
     ensures { (length k.new ≡ 256) × (length w.new ≡ 256) × KeyedIn period t.now a len k.new × Same len k.new w.new }
 {
     let mut o = a;
-    let mut i = 0;
-    while i < len {
+    for i in 0..len {
         let x = windows::key(t[o], i);
         k[i] = x;
         w[i] = x;
         o = bus::turn(o, period);
-        i += 1;
     }
 }
 
@@ -53,7 +51,7 @@ fn now_in(
     lo: usize,
     hi: usize,
 )
-    requires { (a < period) × (period ≤ 256) × (len ≤ 256) × (1 ≤ lo) × (lo ≤ hi) × (hi ≤ 256) × Fits period t.now × (length k.old ≡ 256) × (length w.old ≡ 256) × (length out.old ≡ 256) × (period ≤ length t.now) }
+    requires { (a < period) × Row period t.now × (len ≤ 256) × (1 ≤ lo) × (lo ≤ hi) × (hi ≤ 256) × (length k.old ≡ 256) × (length w.old ≡ 256) × (length out.old ≡ 256) }
     ensures { (length k.new ≡ 256) × (length w.new ≡ 256) × (length out.new ≡ 256) × NowIn period t.now a len lo hi out.old out.new }
 {
     // no access fits
@@ -62,16 +60,13 @@ fn now_in(
     }
     keys_in(t, k, w, period, a, len);
     windows::two_pass(k, w, len, hi - lo + 1);
-    let mut run = 0;
+    let mut run: u64 = 0;
     let mut q = (a + lo) % period;
-    let mut y = lo;
-    while y <= len {
-        let next = times::larger(run, k[y - lo]);
-        run = next;
+    for y in lo..len + 1 {
+        run = run.max(k[y - lo]);
         let x = window(run, w, y, hi);
         out[q] = times::longer_of(out[q], windows::unkey(x, y));
         q = bus::turn(q, period);
-        y += 1;
     }
 }
 
@@ -83,16 +78,12 @@ pub fn now_all(t: &[u64], out: &mut [u64; 256], b: Bus, lo: usize, hi: usize)
 {
     let mut k = [0u64; 256];
     let mut w = [0u64; 256];
-    let mut i = b.longest;
-    let mut x = b.first;
-    let mut len = b.most;
+    let mut x = bus::first_stretch(b);
     let mut gone = 0;
     while gone < b.period {
-        now_in(t, &mut k, &mut w, out, b.period, x, len, lo, hi);
-        let n = bus::next_stretch(b, i, x, len);
-        gone += len + n.gap;
-        i = n.i;
-        x = n.at;
-        len = n.len;
+        now_in(t, &mut k, &mut w, out, b.period, x.at, x.len, lo, hi);
+        let n = bus::next_stretch(b, x);
+        gone += x.len + n.gap;
+        x = n.stretch;
     }
 }

@@ -40,7 +40,7 @@ pub fn always_step(b: Bus, lo: usize, hi: usize, t: &[u64]) -> [u64; 256]
     if b.most == b.period {
         return windows::plain_wide(t, b.period, lo, hi);
     }
-    let mut out = [0xffff_ffff_ffff_ffffu64; 256];
+    let mut out = [times::NO_TIME; 256];
     starting::now_all(t, &mut out, b, lo, hi);
     waiting::arrive_all(t, &mut out, b, lo, hi);
     out

@@ -1,13 +1,15 @@
--- Texts put one after the other into a buffer: the second starts where the first ends, so what is kept before and behind is that of one text.
-use mathlib.Core.Path.{◌≡◌, ◌∙◌}
-use mathlib.Core.List.{List, [], ◌∷◌, ◌++◌, append_assoc}
-use Prim.Native.Nat.{ℕ, ◌+◌, ◌≤◌, ◌<◌}
+-- Texts put one after the other into a buffer, or on a page of it: the second starts where the first ends, so what is kept before and behind is that of one text.
+use mathlib.Core.Path.{◌≡◌, ◌∙◌, refl}
+use mathlib.Core.List.{List, [], ◌++◌, append_assoc}
+use Prim.Native.Nat.{ℕ, ◌+◌, ◌-◌, ◌≤◌}
 use native.Mathlib.Nat.{add_assoc}
 use native.Mathlib.Omega.{arith}
-use native.Mathlib.Numerals.{add-one}
-use lib.ListN.{length, take, drop, set, length-append}
-use lib.Seq.{take_at, drop_at, length-take-le, drop-drop, set_split, paste, paste-zero, take-length}
+use lib.ListN.{length, take, drop, length-append}
+use lib.Seq.{take_at, drop_at, length-take-le, drop-drop, paste-zero}
+use borrow.Rule.Slice.PartMut.{put_mid}
+use Rattle.text.specs.declared.Page.{Page}
 use Rattle.text.specs.Buffer.{put, Wrote}
+use Rattle.text.specs.Pages.{Puts}
 
 -- the length up to the end of a text
 head_length : (out : List ℕ) (at : ℕ) (s : List ℕ) → at ≤ length out → length (take at out ++ s) ≡ at + length s
@@ -41,14 +43,22 @@ pub wrote_none : (out : List ℕ) (at : ℕ) → Wrote out at [] out at
 unfolding put
 wrote_none out at = record { ends = omega arith; bytes = paste-zero out at [] }
 
--- one byte put
-pub wrote_byte : (out : List ℕ) (at x : ℕ) → at < length out → Wrote out at (x ∷ []) (set out at x) (at + 1)
+-- a text copied into its part of the buffer
+pub wrote_text : (out : List ℕ) (at : ℕ) (text part : List ℕ) → part ≡ text
+    → Wrote out at text (put_mid at (at + length text - at) out part) (at + length text)
 unfolding put
-wrote_byte out at x h = record { ends = omega arith; bytes = set_split out at x h ∙ rw (append_assoc, add-one) }
+wrote_text out at text part e =
+    let k : at + length text - at ≡ length text = omega arith in
+    record { ends = refl; bytes = rw (k, e, drop-drop (length text) at out, append_assoc) refl }
 
--- a text put byte by byte
-pub wrote_all : {after : List ℕ} {end : ℕ} (out : List ℕ) (at : ℕ) (text : List ℕ) → end ≡ at + length text
-    → after ≡ paste out at text (length text) → Wrote out at text after end
-unfolding put
-wrote_all out at text e h =
-    record { ends = e; bytes = h ∙ rw (take-length text) }
+-- on a page
+pub puts_both : {p q r : Page} (s t : List ℕ) → p.at ≤ length p.out.now → Puts p q s → Puts q r t → Puts p r (s ++ t)
+puts_both s t h a b =
+    record {
+      same_buffer = b.same_buffer ∙ a.same_buffer;
+      same_length = b.same_length ∙ a.same_length;
+      wrote = wrote_both s t h a.wrote b.wrote;
+    }
+
+pub puts_none : (p : Page) → Puts p p []
+puts_none p = record { same_buffer = refl; same_length = refl; wrote = wrote_none p.out.now p.at }

@@ -1,10 +1,11 @@
 -- Inside a loop: what the unroller may be asked, and how its parts make the whole.
 use mathlib.Core.Path.{◌≡◌, refl, sym, ◌∙◌, ap}
+use mathlib.Core.Bool.{Bool, false}
 use mathlib.Core.Option.{none}
 use mathlib.Core.List.{List}
 use lib.ListN.{length, get_or}
 use native.Mathlib.Omega.{arith}
-use native.Mathlib.Nat.{mul-le-mul_left, mul-le-mul_right, add-mul, add-zero, sub-zero, zero-mul, sub_self, not-suc-le-zero}
+use native.Mathlib.Nat.{mul-le-mul_left, mul-le-mul_right, add-mul, add-zero, sub-zero, zero-mul, sub_self}
 use Prim.Native.Nat.{ℕ, ◌+◌, ◌-◌, ◌*◌, ◌≤◌}
 use Rattle.runs.specs.Nodes.{Trees, visits, visits_all}
 use Rattle.runs.specs.Carried.{iterate, carried}
@@ -20,7 +21,8 @@ use Rattle.nodes.specs.declared.Loop.{Loop}
 use Rattle.image.proofs.Walks.{valid_at, turn_valid}
 use Rattle.times.specs.Arrays.{table_of, Fits}
 use Rattle.cycles.specs.declared.Watch.{Watch}
-use Rattle.cycles.proofs.Watching.{goes_none, goes_one, goes_both, whole, skips_small, skips_watches, skips_ends}
+use Rattle.cycles.specs.Cycles.{finds, length_of, gain_of, fresh}
+use Rattle.cycles.proofs.Watching.{goes_none, goes_one, goes_both, whole, skips_small, skips_ends, fresh_small, fresh_watches, off_watches}
 use Rattle.iterations.specs.Iterations.{WatchedBy, SkippedBy, KeptBy}
 use Rattle.tight.specs.Steps.{size_of, table, after, after_all, Roomy, Walked, WalkedAll, Ready, ReadyRepeat, ReadyTurn, ReadyLoop, BegunAt, TurnedAt, UnrolledAt, Unrolls, Repeated}
 use Rattle.tight.proofs.Rooms.{room_less, room_fits, room_after, room_times}
@@ -88,7 +90,7 @@ module _ (s : List ℕ) (k : Walk) (places : List ℕ) (body test left : ℕ) (w
   }
 
   -- no iteration: none is left, or a cycle is known
-  pub none_unrolls : (least : ℕ) → (w.cycle ≡ 0 → left ≡ 0) → Unrolls k xs least left w cur out old w cur out old
+  pub none_unrolls : (least : ℕ) → (finds w.search ≡ false → left ≡ 0) → Unrolls k xs least left w cur out old w cur out old
   none_unrolls least stop = record {
     goes = goes_none left w r.small stop;
     size = refl;
@@ -99,7 +101,7 @@ module _ (s : List ℕ) (k : Walk) (places : List ℕ) (body test left : ℕ) (w
   }
 
   -- one
-  pub one_unrolls : (least : ℕ) → left ≡ 1 → w.cycle ≡ 0 → (cur' out' old' : List ℕ) (a : Watch) → WalkedAll k xs cur cur'
+  pub one_unrolls : (least : ℕ) → left ≡ 1 → finds w.search ≡ false → (cur' out' old' : List ℕ) (a : Watch) → WalkedAll k xs cur cur'
       → length out' ≡ length out → TurnedAt k least w.done out cur' out' → (P : ℕ) → P ≡ size_of k → WatchedBy P cur' old w old' a
       → Unrolls k xs least left w cur out old a cur' out' old'
   one_unrolls least e none_yet cur' out' old' a step size turned P is seen =
@@ -161,13 +163,9 @@ module _ (s : List ℕ) (k : Walk) (places : List ℕ) (node : ℕ) (l : Loop) (
   abbrev ys : Trees
   ys = turn_trees s l.body l.test
 
-  abbrev fresh : ℕ → Watch
-  fresh span = record { done = 0; gap = 0; span = span; cycle = 0; gain = 0 }
-
-  pub begun_ready : (out₀ out old old' : List ℕ) (span : ℕ) → size_of k ≤ length out₀ → length out ≡ length out₀ → size_of k ≤ length old → (P : ℕ) → P ≡ size_of k
-      → KeptBy P t old old' span → ReadyLoop s k places l.body l.test l.greatest (fresh span) t out old'
-  unfolding iterate
-  begun_ready out₀ out old old' span long size size_old P is b = record {
+  pub begun_ready : (out₀ out old old' : List ℕ) (keeps : Bool) → size_of k ≤ length out₀ → length out ≡ length out₀ → size_of k ≤ length old → (P : ℕ) → P ≡ size_of k
+      → KeptBy P t old old' keeps → ReadyLoop s k places l.body l.test l.greatest (fresh keeps) t out old'
+  begun_ready out₀ out old old' keeps long size size_old P is b = record {
     walkable = r.walkable;
     low = omega (arith, r.low, r.below);
     low_test = omega (arith, r.low, r.below_test);
@@ -176,18 +174,18 @@ module _ (s : List ℕ) (k : Walk) (places : List ℕ) (node : ℕ) (l : Loop) (
     size_out = omega arith;
     size_old = omega (arith, b.size);
     room = room_less k _ _ (table k t) (omega arith) r.room;
-    small = record { gap_most = omega arith; span_most = omega (arith, b.few); cycle_most = omega arith; gain_most = omega arith };
-    watches = record { past = λ m. sym (rw is at (b.kept m)); cyclic = λ m. absurd (not-suc-le-zero m) };
+    small = fresh_small keeps;
+    watches = fresh_watches (after_all k ys) shifted _ _ keeps (λ m. sym (rw is at (b.kept m)));
   }
 
-  module _ (out₀ out old old' : List ℕ) (span : ℕ) (long : size_of k ≤ length out₀) (size : length out ≡ length out₀) (size_old : size_of k ≤ length old)
-      (P : ℕ) (is : P ≡ size_of k) (b : KeptBy P t old old' span) (a : Watch) (cur₁ out₁ old₁ : List ℕ) (u : Unrolls k ys l.least l.greatest (fresh span) t out old' a cur₁ out₁ old₁) where
+  module _ (out₀ out old old' : List ℕ) (keeps : Bool) (long : size_of k ≤ length out₀) (size : length out ≡ length out₀) (size_old : size_of k ≤ length old)
+      (P : ℕ) (is : P ≡ size_of k) (b : KeptBy P t old old' keeps) (a : Watch) (cur₁ out₁ old₁ : List ℕ) (u : Unrolls k ys l.least l.greatest (fresh keeps) t out old' a cur₁ out₁ old₁) where
     pub seen_few : a.done ≤ l.greatest
     seen_few = omega (arith, u.goes.most)
 
     pub seen_ready : ReadyLoop s k places l.body l.test (l.greatest - a.done) a cur₁ out₁ old₁
     seen_ready =
-        let g = begun_ready out₀ out old old' span long size size_old P is b in
+        let g = begun_ready out₀ out old old' keeps long size size_old P is b in
         record {
           walkable = r.walkable;
           low = g.low;
@@ -197,7 +195,7 @@ module _ (s : List ℕ) (k : Walk) (places : List ℕ) (node : ℕ) (l : Loop) (
           size_out = omega (arith, u.size_out, g.size_out);
           size_old = omega (arith, u.size_old, g.size_old);
           room =
-              later_room s k places l.body l.test l.greatest (fresh span) t out old' g (a.done - 0) (l.greatest - a.done) (omega (arith, u.goes.most)) _ u.unrolled.cur;
+              later_room s k places l.body l.test l.greatest (fresh keeps) t out old' g (a.done - 0) (l.greatest - a.done) (omega (arith, u.goes.most)) _ u.unrolled.cur;
           small = u.goes.small;
           watches = u.watches;
         }
@@ -212,23 +210,23 @@ module _ (s : List ℕ) (k : Walk) (places : List ℕ) (node : ℕ) (l : Loop) (
       abbrev n : ℕ
       n = e.skips.0
 
-      by_gain : table k cur₂ ≡ shifted (n * a.gain) (table k cur₁)
+      by_gain : table k cur₂ ≡ shifted (n * gain_of a.search) (table k cur₁)
       by_gain = rw is at e.skips.2
 
-      fits : n * a.cycle ≤ l.greatest - a.done
+      fits : n * length_of a.search ≤ l.greatest - a.done
       fits = whole (l.greatest - a.done) a n seen_ready.few e.skips.1.jumps
 
       pub skip_few : q.done ≤ l.greatest
       skip_few = omega (arith, fits, e.skips.1.done, u.goes.most)
 
       -- the table behind the skipped cycles
-      skip_cur : table k cur₂ ≡ iterate (after_all k ys) (n * a.cycle) (table k cur₁)
+      skip_cur : table k cur₂ ≡ iterate (after_all k ys) (n * length_of a.search) (table k cur₁)
       unfolding iterate
       skip_cur =
           split 1 n
-          (λ m. by_gain ∙ sym (multiple (after_all k ys) (commutes k ys) a.cycle a.gain _ (u.watches.cyclic (e.skips.1.jumps.room m).0) n))
+          (λ m. by_gain ∙ sym (multiple (after_all k ys) (commutes k ys) (length_of a.search) (gain_of a.search) _ (u.watches.cyclic (e.skips.1.jumps.room m).0) n))
           (λ m. let z : n ≡ 0 = omega arith in
-          by_gain ∙ rw (z, zero-mul a.gain, zero-mul a.cycle) (shifted_zero (table k cur₁)))
+          by_gain ∙ rw (z, zero-mul (gain_of a.search), zero-mul (length_of a.search)) (shifted_zero (table k cur₁)))
 
       pub rest_ready : ReadyLoop s k places l.body l.test (l.greatest - q.done) q cur₂ out₁ old₁
       rest_ready = record {
@@ -240,24 +238,24 @@ module _ (s : List ℕ) (k : Walk) (places : List ℕ) (node : ℕ) (l : Loop) (
         size_out = seen_ready.size_out;
         size_old = seen_ready.size_old;
         room =
-            later_room s k places l.body l.test (l.greatest - a.done) a cur₁ out₁ old₁ seen_ready (n * a.cycle) (l.greatest - q.done)
+            later_room s k places l.body l.test (l.greatest - a.done) a cur₁ out₁ old₁ seen_ready (n * length_of a.search) (l.greatest - q.done)
             (omega (arith, fits, e.skips.1.done)) _ skip_cur;
         small = skips_small _ a n q e.skips.1;
-        watches = skips_watches (after_all k ys) shifted _ a n q e.skips.1 _ _;
+        watches = off_watches (after_all k ys) shifted _ _ q e.skips.1.off;
       }
 
       -- unrolling the rest is unrolling all that was left
-      skip_unrolled : (cur' out' : List ℕ) → UnrolledAt k ys l.least (a.done + n * a.cycle) (l.greatest - a.done - n * a.cycle) cur₂ out₁ cur' out'
+      skip_unrolled : (cur' out' : List ℕ) → UnrolledAt k ys l.least (a.done + n * length_of a.search) (l.greatest - a.done - n * length_of a.search) cur₂ out₁ cur' out'
           → UnrolledAt k ys l.least a.done (l.greatest - a.done) cur₁ out₁ cur' out'
       skip_unrolled cur' out' v =
           split 1 n
           (λ m. let j = e.skips.1.jumps.room m in
-          cycles_skip (after_all k ys) (commutes k ys) a.cycle a.gain _ (u.watches.cyclic j.0) j.0 (size_of k)
+          cycles_skip (after_all k ys) (commutes k ys) (length_of a.search) (gain_of a.search) _ (u.watches.cyclic j.0) j.0 (size_of k)
           l.least a.done (l.greatest - a.done) n j.1 _ _ _ _ (by_gain) v)
           (λ m. let z : n ≡ 0 = omega arith in
           let same : table k cur₂ ≡ table k cur₁ =
-          by_gain ∙ rw (z, zero-mul a.gain) (shifted_zero (table k cur₁)) in
-          rw same at (rw (z, zero-mul a.cycle, add-zero, sub-zero) at v))
+          by_gain ∙ rw (z, zero-mul (gain_of a.search)) (shifted_zero (table k cur₁)) in
+          rw same at (rw (z, zero-mul (length_of a.search), add-zero, sub-zero) at v))
 
       counted : (cur' out' : List ℕ) (d d' m m' : ℕ) → d ≡ d' → m ≡ m' → UnrolledAt k ys l.least d m cur₂ out₁ cur' out'
           → UnrolledAt k ys l.least d' m' cur₂ out₁ cur' out'
@@ -273,7 +271,7 @@ module _ (s : List ℕ) (k : Walk) (places : List ℕ) (node : ℕ) (l : Loop) (
           → length t' ≡ length cur' → table_of P t' ≡ table_of P out' → Repeated k ys l.least l.greatest t t'
       repeat_steps z cur' out' old₂ t' g v same copied =
           let ends : z.done ≡ q.done + (l.greatest - q.done) = skips_ends _ a n q e.skips.1 _ z v.goes in
-          let left : z.done - q.done ≡ l.greatest - a.done - n * a.cycle = omega (arith, ends, e.skips.1.done, skip_few) in
+          let left : z.done - q.done ≡ l.greatest - a.done - n * length_of a.search = omega (arith, ends, e.skips.1.done, skip_few) in
           let rest = skip_unrolled cur' out' (counted cur' out' q.done _ (z.done - q.done) _ e.skips.1.done left v.unrolled) in
           let first = u.unrolled in
           let whole-count : (a.done - 0) + (l.greatest - a.done) ≡ l.greatest = omega (arith, u.goes.most) in

@@ -7,7 +7,7 @@
 // pair of the larger of their numbers and the iterations left falls: the iterations are taken in two halves, so the stack grows with the
 // logarithm of the count. Arrays are lent down the walk, not copied; those that a join or
 // a loop keeps have 256 places, and 1,024 only where the image has lines.
-// A loop whose times have become periodic (after `cycle` iterations every time is `gain` cycles later) is not walked to its end: the
+// A loop whose times have become periodic (after some iterations every time is one gain later) is not walked to its end: the
 // unroller stops there, whole cycles are skipped by one addition, and the rest is walked.
 #![tactic(auto)]
 
@@ -18,7 +18,7 @@ ghost use Rattle.iterations.specs.Iterations.{Empty};
 ghost use Rattle.tight.specs.Steps.{size_of, table, after_all, Walked, Sized, PlainReady, BusReady, OnceReady, Ready, ReadyAll, ReadyRepeat, ReadyTurn, ReadyLoop, WalkedAll, Unrolls, Branched, Repeated};
 
 use cycles::Watch;
-use image::Walk;
+use image::{Task, Walk};
 use lined::Step;
 use nodes::{BusBlock, Children, Kind, Loop, Node, Once, Plain};
 
@@ -71,161 +71,125 @@ fn once_block(k: Walk, x: Once, t: &mut [u64])
 
 // The times after a node.
 #[cycle(walk)]
-pub fn walk(image: &[u8], places: &[usize; 256], k: Walk, node: usize, t: &mut [u64])
-    requires { Ready image.now k places.now node t.old }
-    ensures { Walked k (tree_at image.now node) t.old t.new }
+pub fn walk(task: &Task, node: usize, t: &mut [u64])
+    requires { Ready task.now.image.now task.now.walk task.now.places.now node t.old }
+    ensures { Walked task.now.walk (tree_at task.now.image.now node) t.old t.new }
 {
-    let at = places[node];
-    let n = nodes::node_at(image, at);
+    let at = task.places[node];
+    let n = nodes::node_at(task.image, at);
     match n {
-        Node::Plain(p) => plain_block(k, p, t),
-        Node::Bus(x) => bus_block(k, x, t),
-        Node::Once(x) => once_block(k, x, t),
-        Node::Sequence(c) => sequence(image, places, k, node, c, t),
-        Node::Branch(c) => branch(image, places, k, node, c, t),
-        Node::Loop(l) => repeat(image, places, k, node, l, t),
+        Node::Plain(p) => plain_block(task.walk, p, t),
+        Node::Bus(x) => bus_block(task.walk, x, t),
+        Node::Once(x) => once_block(task.walk, x, t),
+        Node::Sequence(c) => sequence(task, node, c, t),
+        Node::Branch(c) => branch(task, node, c, t),
+        Node::Loop(l) => repeat(task, node, l, t),
     }
 }
 
 // The times after the children in order.
 #[cycle(walk)]
-fn sequence(image: &[u8], places: &[usize; 256], k: Walk, node: usize, c: Children, t: &mut [u64])
-    requires { ReadyAll image.now k places.now node c.place c.count t.old }
-    ensures { (length t.new ≡ length t.old) × (table k t.new ≡ after_all k (child_trees image.now c.place c.count) (table k t.old)) }
+fn sequence(task: &Task, node: usize, c: Children, t: &mut [u64])
+    requires { ReadyAll task.now.image.now task.now.walk task.now.places.now node c.place c.count t.old }
+    ensures { (length t.new ≡ length t.old) × (table task.now.walk t.new ≡ after_all task.now.walk (child_trees task.now.image.now c.place c.count) (table task.now.walk t.old)) }
 {
     let place = c.place;
     let count = c.count;
-    let mut i = 0;
-    while i < count {
-        let child = image_bytes::word(image, place + 2 * i);
-        walk(image, places, k, child, t);
-        i += 1;
+    for i in 0..count {
+        let child = image_bytes::word(task.image, place + 2 * i);
+        walk(task, child, t);
     }
 }
 
 // The times after any one of the children, joined.
 #[cycle(walk)]
-fn branch(image: &[u8], places: &[usize; 256], k: Walk, node: usize, c: Children, t: &mut [u64])
-    requires { ReadyAll image.now k places.now node c.place c.count t.old }
-    ensures { (length t.new ≡ length t.old) × Branched k (child_trees image.now c.place c.count) t.old t.new }
+fn branch(task: &Task, node: usize, c: Children, t: &mut [u64])
+    requires { ReadyAll task.now.image.now task.now.walk task.now.places.now node c.place c.count t.old }
+    ensures { (length t.new ≡ length t.old) × Branched task.now.walk (child_trees task.now.image.now c.place c.count) t.old t.new }
 {
-    if 1 < k.outline.sets {
-        wide_branch(image, places, k, node, c, t);
+    if 1 < task.walk.outline.sets {
+        wide_branch(task, node, c, t);
         return;
     }
-    let mut out = [18446744073709551615u64; 256];
-    let mut arm = [18446744073709551615u64; 256];
-    arms(image, places, k, node, c, t, &mut out, &mut arm);
+    let mut out = [times::NO_TIME; 256];
+    let mut arm = [times::NO_TIME; 256];
+    arms(task, node, c, t, &mut out, &mut arm);
 }
 
-// The same where the image has lines.
+// The same where the image has lines. Not one function with a const parameter: no theorem is stated of a cycle of calls in which one function
+// has such a parameter, and where all have it, the checker's own part of the proof does not close.
 #[cycle(walk)]
-fn wide_branch(
-    image: &[u8],
-    places: &[usize; 256],
-    k: Walk,
-    node: usize,
-    c: Children,
-    t: &mut [u64],
-)
-    requires { ReadyAll image.now k places.now node c.place c.count t.old }
-    ensures { (length t.new ≡ length t.old) × Branched k (child_trees image.now c.place c.count) t.old t.new }
+fn wide_branch(task: &Task, node: usize, c: Children, t: &mut [u64])
+    requires { ReadyAll task.now.image.now task.now.walk task.now.places.now node c.place c.count t.old }
+    ensures { (length t.new ≡ length t.old) × Branched task.now.walk (child_trees task.now.image.now c.place c.count) t.old t.new }
 {
-    let mut out = [18446744073709551615u64; 1024];
-    let mut arm = [18446744073709551615u64; 1024];
-    arms(image, places, k, node, c, t, &mut out, &mut arm);
+    let mut out = [times::NO_TIME; 1024];
+    let mut arm = [times::NO_TIME; 1024];
+    arms(task, node, c, t, &mut out, &mut arm);
 }
 
 // The arms one by one: each from the entry `t`, into `arm`, and joined to `out`, which is the exit then.
 #[cycle(walk)]
-fn arms(
-    image: &[u8],
-    places: &[usize; 256],
-    k: Walk,
-    node: usize,
-    c: Children,
-    t: &mut [u64],
-    out: &mut [u64],
-    arm: &mut [u64],
-)
-    requires { (ReadyAll image.now k places.now node c.place c.count t.old) × Empty (size_of k) out.old × (size_of k ≤ length arm.old) }
-    ensures { (length t.new ≡ length t.old) × Branched k (child_trees image.now c.place c.count) t.old t.new }
+fn arms(task: &Task, node: usize, c: Children, t: &mut [u64], out: &mut [u64], arm: &mut [u64])
+    requires { (ReadyAll task.now.image.now task.now.walk task.now.places.now node c.place c.count t.old) × Empty (size_of task.now.walk) out.old × (size_of task.now.walk ≤ length arm.old) }
+    ensures { (length t.new ≡ length t.old) × Branched task.now.walk (child_trees task.now.image.now c.place c.count) t.old t.new }
 {
-    let n = size(k);
+    let n = size(task.walk);
     let place = c.place;
     let count = c.count;
-    let mut i = 0;
-    while i < count {
-        let child = image_bytes::word(image, place + 2 * i);
+    for i in 0..count {
+        let child = image_bytes::word(task.image, place + 2 * i);
         times::copy(arm, t, n);
-        walk(image, places, k, child, arm);
+        walk(task, child, arm);
         times::join(out, arm, n);
-        i += 1;
     }
     times::copy(t, out, n);
 }
 
 // The times after a loop: the test comes first, and then the iterations, a test after each.
 #[cycle(walk)]
-fn repeat(image: &[u8], places: &[usize; 256], k: Walk, node: usize, l: Loop, t: &mut [u64])
-    requires { ReadyRepeat image.now k places.now node l (visits (tree_at image.now l.test)) t.old }
-    ensures { Walked k (Tree.loop l.least l.greatest (tree_at image.now l.body) (tree_at image.now l.test)) t.old t.new }
+fn repeat(task: &Task, node: usize, l: Loop, t: &mut [u64])
+    requires { ReadyRepeat task.now.image.now task.now.walk task.now.places.now node l (visits (tree_at task.now.image.now l.test)) t.old }
+    ensures { Walked task.now.walk (Tree.loop l.least l.greatest (tree_at task.now.image.now l.body) (tree_at task.now.image.now l.test)) t.old t.new }
 {
-    walk(image, places, k, l.test, t);
-    if 1 < k.outline.sets {
-        wide_turns(image, places, k, node, l, t);
+    walk(task, l.test, t);
+    if 1 < task.walk.outline.sets {
+        wide_turns(task, node, l, t);
         return;
     }
-    let mut exits = [18446744073709551615u64; 256];
-    let mut old = [18446744073709551615u64; 256];
-    turns(image, places, k, node, l, t, &mut exits, &mut old);
+    let mut exits = [times::NO_TIME; 256];
+    let mut old = [times::NO_TIME; 256];
+    turns(task, node, l, t, &mut exits, &mut old);
 }
 
-// The iterations where the image has lines.
+// The iterations where the image has lines: a function of its own for the reason beside `wide_branch`.
 #[cycle(walk)]
-fn wide_turns(image: &[u8], places: &[usize; 256], k: Walk, node: usize, l: Loop, t: &mut [u64])
-    requires { ReadyRepeat image.now k places.now node l 0 t.old }
-    ensures { Repeated k (turn_trees image.now l.body l.test) l.least l.greatest t.old t.new }
+fn wide_turns(task: &Task, node: usize, l: Loop, t: &mut [u64])
+    requires { ReadyRepeat task.now.image.now task.now.walk task.now.places.now node l 0 t.old }
+    ensures { Repeated task.now.walk (turn_trees task.now.image.now l.body l.test) l.least l.greatest t.old t.new }
 {
-    let mut exits = [18446744073709551615u64; 1024];
-    let mut old = [18446744073709551615u64; 1024];
-    turns(image, places, k, node, l, t, &mut exits, &mut old);
+    let mut exits = [times::NO_TIME; 1024];
+    let mut old = [times::NO_TIME; 1024];
+    turns(task, node, l, t, &mut exits, &mut old);
 }
 
 // The iterations unrolled until a cycle is found or all is done, whole cycles skipped, and the rest unrolled. The exits are joined to `out`; `old` is what is kept for the watch.
 #[cycle(walk)]
-fn turns(
-    image: &[u8],
-    places: &[usize; 256],
-    k: Walk,
-    node: usize,
-    l: Loop,
-    t: &mut [u64],
-    out: &mut [u64],
-    old: &mut [u64],
-)
-    requires { (ReadyRepeat image.now k places.now node l 0 t.old) × Empty (size_of k) out.old × (size_of k ≤ length old.old) }
-    ensures { Repeated k (turn_trees image.now l.body l.test) l.least l.greatest t.old t.new }
+fn turns(task: &Task, node: usize, l: Loop, t: &mut [u64], out: &mut [u64], old: &mut [u64])
+    requires { (ReadyRepeat task.now.image.now task.now.walk task.now.places.now node l 0 t.old) × Empty (size_of task.now.walk) out.old × (size_of task.now.walk ≤ length old.old) }
+    ensures { Repeated task.now.walk (turn_trees task.now.image.now l.body l.test) l.least l.greatest t.old t.new }
 {
-    let n = size(k);
+    let n = size(task.walk);
     iterations::before_first(n, l.least, t, out);
-    let span = iterations::kept(n, l.greatest, t, old);
-    let begun = Watch {
-        done: 0,
-        gap: 0,
-        span,
-        cycle: 0,
-        gain: 0,
-    };
+    let keeps = iterations::kept(n, l.greatest, t, old);
+    let watch = Watch::begun(keeps);
     let seen = unroll(
-        image, places, k, l.body, l.test, l.least, l.greatest, begun, t, out, old,
+        task, l.body, l.test, l.least, l.greatest, watch, t, out, old,
     );
     let left = l.greatest - seen.done;
     let rest = iterations::skipped(n, left, seen, t);
     unroll(
-        image,
-        places,
-        k,
+        task,
         l.body,
         l.test,
         l.least,
@@ -240,27 +204,18 @@ fn turns(
 
 // One iteration: the body, and the test that follows it.
 #[cycle(walk)]
-fn iteration(
-    image: &[u8],
-    places: &[usize; 256],
-    k: Walk,
-    body: usize,
-    test: usize,
-    cur: &mut [u64],
-)
-    requires { ReadyTurn image.now k places.now body test cur.old }
-    ensures { WalkedAll k (turn_trees image.now body test) cur.old cur.new }
+fn iteration(task: &Task, body: usize, test: usize, cur: &mut [u64])
+    requires { ReadyTurn task.now.image.now task.now.walk task.now.places.now body test cur.old }
+    ensures { WalkedAll task.now.walk (turn_trees task.now.image.now body test) cur.old cur.new }
 {
-    walk(image, places, k, body, cur);
-    walk(image, places, k, test, cur);
+    walk(task, body, cur);
+    walk(task, test, cur);
 }
 
 // `left` iterations more, as two halves; none once a cycle is found.
 #[cycle(walk)]
 fn unroll(
-    image: &[u8],
-    places: &[usize; 256],
-    k: Walk,
+    task: &Task,
     body: usize,
     test: usize,
     least: usize,
@@ -270,33 +225,21 @@ fn unroll(
     out: &mut [u64],
     old: &mut [u64],
 ) -> Watch
-    requires { ReadyLoop image.now k places.now body test left w cur.old out.old old.old }
-    ensures { Unrolls k (turn_trees image.now body test) least left w cur.old out.old old.old result cur.new out.new old.new }
+    requires { ReadyLoop task.now.image.now task.now.walk task.now.places.now body test left w cur.old out.old old.old }
+    ensures { Unrolls task.now.walk (turn_trees task.now.image.now body test) least left w cur.old out.old old.old result cur.new out.new old.new }
 {
     if left == 0 {
         return w;
     }
-    if 0 < w.cycle {
+    if w.has_cycle() {
         return w;
     }
     if left == 1 {
-        iteration(image, places, k, body, test, cur);
-        iterations::joined(size(k), least, w.done, cur, out);
-        return iterations::watched(size(k), cur, old, w);
+        iteration(task, body, test, cur);
+        iterations::joined(size(task.walk), least, w.done, cur, out);
+        return iterations::watched(size(task.walk), cur, old, w);
     }
     let half = left / 2;
-    let a = unroll(image, places, k, body, test, least, half, w, cur, out, old);
-    unroll(
-        image,
-        places,
-        k,
-        body,
-        test,
-        least,
-        left - half,
-        a,
-        cur,
-        out,
-        old,
-    )
+    let a = unroll(task, body, test, least, half, w, cur, out, old);
+    unroll(task, body, test, least, left - half, a, cur, out, old)
 }

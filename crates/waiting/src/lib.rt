@@ -2,7 +2,7 @@
 // core owns, and starts where that begins. Going once round the period from stretch to stretch, an access that a stretch has room for starts there, or
 // within it, and one that it has no room for waits on. What waits with a duration is the longest time kept for it and for the shorter ones, each as it
 // would be at the end of the round: so what waits on past a stretch is written at one duration only. A time is kept as one more, and none as 0: the
-// longest of such numbers is the largest.
+// longest of such numbers is the largest. (An Option is no plainer: the longest of two would be four cases.)
 //
 // Promise: `arrive_all` joins to a table the entries that wait, or stand where a stretch begins, for each duration that the stretch has room for
 // (`LeftAll`).
@@ -12,29 +12,26 @@
 ghost use Rattle.std.specs.Prelude.{◌≡◌, length, ◌+◌, ◌<◌, ◌≤◌, max};
 ghost use Rattle.runs.specs.Figures.{later as laterBy};
 ghost use Rattle.bus.specs.Owning.{owns, Fit};
-ghost use Rattle.times.specs.Arrays.{no_time, time_of, Fits};
+ghost use Rattle.times.specs.Arrays.{no_time, time_of, Fits, Row};
 ghost use Rattle.waiting.specs.Waiting.{Reach, Come, ComeLater, Shorter, WaitsOn, kept_time, among, Small, Ended, LeftBy, LeftAll};
 
 use bus::Bus;
 
 // The longest time of the entries from `from` to below `to`, each `base - o` cycles later.
 fn reach(t: &[u64], period: usize, from: usize, to: usize, base: usize) -> u64
-    requires { (period ≤ 256) × (from ≤ to) × (to ≤ period) × (to ≤ base + 1) × (base ≤ 512) × Fits period t.now × (period ≤ length t.now) }
+    requires { Row period t.now × (from ≤ to) × (to ≤ period) × (to ≤ base + 1) × (base ≤ 512) }
     ensures { Reach period t.now from to base result }
 {
-    let mut best = 0xffff_ffff_ffff_ffffu64;
-    let mut o = from;
-    while o < to {
-        let v = times::later_by(t[o], base - o);
-        best = times::longer_of(best, v);
-        o += 1;
+    let mut best = times::NO_TIME;
+    for o in from..to {
+        best = times::longer_of(best, times::later_by(t[o], base - o));
     }
     best
 }
 
 // The longest time with which an entry comes to the offset y: the one there, or one of the n before it, each as many cycles later.
 fn come(t: &[u64], period: usize, y: usize, n: usize) -> u64
-    requires { (y < period) × (n ≤ period) × (period ≤ 256) × Fits period t.now × (period ≤ length t.now) }
+    requires { (y < period) × (n ≤ period) × Row period t.now }
     ensures { Come period t.now y n result }
 {
     if n <= y {
@@ -50,7 +47,7 @@ fn kept(t: u64, d: usize) -> u64
     requires { (d ≤ 512) × (¬ (t ≡ no_time) → t ≤ 1152921504606846976 + 512) }
     ensures { kept_time result ≡ laterBy d (time_of t) }
 {
-    if t == 0xffff_ffff_ffff_ffff {
+    if t == times::NO_TIME {
         0
     } else {
         t + d as u64 + 1
@@ -69,28 +66,18 @@ fn within(
     top: usize,
     rest: usize,
 ) -> u64
-    requires { (y < period) × (1 ≤ lo) × (top ≤ 255) × (gap + top ≤ period) × (period ≤ 256) × (rest ≤ 256) × Fits period t.now × (period ≤ length t.now) × (length pending.old ≡ 256) }
+    requires { (y < period) × (1 ≤ lo) × (top ≤ 255) × (gap + top ≤ period) × Row period t.now × (rest ≤ 256) × (length pending.old ≡ 256) }
     ensures { ComeLater period t.now y (gap + top) rest result × (length pending.new ≡ 256) × Shorter period t.now y gap rest lo (max lo (top + 1)) pending.old pending.new }
 {
-    let n = gap + times::least(lo - 1, top);
+    let n = gap + (lo - 1).min(top);
     let mut best = kept(come(t, period, y, n), rest);
     let mut at = bus::turn_back_by(y, n, period);
-    let mut e = lo;
-    while e <= top {
+    for e in lo..top + 1 {
         pending[e] = best;
         at = bus::turn_back(at, period);
-        best = times::larger(best, kept(t[at], gap + rest + e));
-        e += 1;
+        best = best.max(kept(t[at], gap + rest + e));
     }
     best
-}
-
-// The first duration from lo on that a stretch of len cycles has no room for.
-fn past(lo: usize, len: usize) -> usize
-    requires { len ≤ 256 }
-    ensures { result ≡ max lo (len + 1) }
-{
-    if len < lo { lo } else { len + 1 }
 }
 
 // What waits on past a stretch with `over` cycles or more, for which that has no room: beside what is pending there, what was pending for shorter
@@ -100,7 +87,7 @@ fn wait_on(pending: &mut [u64; 256], over: usize, hi: usize, run: u64, best: u64
     ensures { (length pending.new ≡ 256) × WaitsOn over hi run best pending.old pending.new }
 {
     if over <= hi {
-        pending[over] = times::larger(pending[over], times::larger(run, best));
+        pending[over] = pending[over].max(run.max(best));
     }
 }
 
@@ -110,7 +97,7 @@ fn ended(v: u64, rest: usize, e: usize) -> u64
     ensures { Ended v rest e result }
 {
     if v == 0 {
-        0xffff_ffff_ffff_ffff
+        times::NO_TIME
     } else {
         v - 1 - rest as u64 + e as u64
     }
@@ -130,14 +117,12 @@ fn leave(
     requires { (a < period) × (period ≤ 256) × (lo ≤ 255) × (top ≤ 255) × (length out.old ≡ 256) × Small pending.now rest lo top }
     ensures { (kept_time result ≡ among pending.now lo (max lo (top + 1))) × (length out.new ≡ 256) × LeftBy period pending.now a rest lo (max lo (top + 1)) out.old out.new }
 {
-    let mut run = 0;
+    let mut run: u64 = 0;
     let mut q = (a + lo) % period;
-    let mut e = lo;
-    while e <= top {
-        run = times::larger(run, pending[e]);
+    for e in lo..top + 1 {
+        run = run.max(pending[e]);
         out[q] = times::longer_of(out[q], ended(run, rest, e));
         q = bus::turn(q, period);
-        e += 1;
     }
     run
 }
@@ -150,20 +135,26 @@ pub fn arrive_all(t: &[u64], out: &mut [u64; 256], b: Bus, lo: usize, hi: usize)
 {
     let mut pending = [0u64; 256];
     let mut run = 0;
-    let mut i = b.longest;
-    let mut x = b.first;
-    let mut len = b.most;
+    let mut x = bus::first_stretch(b);
     let mut gone = 0;
     while gone < b.period {
-        let n = bus::next_stretch(b, i, x, len);
-        gone += len + n.gap;
+        let n = bus::next_stretch(b, x);
+        gone += x.len + n.gap;
         let rest = b.period - gone;
-        let top = times::least(hi, len);
-        let best = within(t, &mut pending, b.period, n.at, n.gap, lo, top, rest);
-        wait_on(&mut pending, past(lo, len), hi, run, best);
-        i = n.i;
-        x = n.at;
-        len = n.len;
-        run = leave(&pending, out, b.period, x, lo, times::least(hi, len), rest);
+        let top = hi.min(x.len);
+        let best = within(
+            t,
+            &mut pending,
+            b.period,
+            n.stretch.at,
+            n.gap,
+            lo,
+            top,
+            rest,
+        );
+        // the first duration that the stretch has no room for
+        wait_on(&mut pending, lo.max(x.len + 1), hi, run, best);
+        x = n.stretch;
+        run = leave(&pending, out, b.period, x.at, lo, hi.min(x.len), rest);
     }
 }

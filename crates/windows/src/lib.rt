@@ -7,12 +7,12 @@
 #![tactic(auto)]
 
 ghost use Rattle.std.specs.Prelude.{◌≡◌, length, ◌+◌, ◌<◌, ◌≤◌};
-ghost use Rattle.times.specs.Arrays.{no_time, Fits};
+ghost use Rattle.times.specs.Arrays.{no_time, Row};
 ghost use Rattle.windows.specs.Windows.{Same, Windowed, Suffixes, Prefixes, key_of, Keyed, time_at, Unkeyed, Turns, Room, Passed};
 
 // The table after a plain block of lo to hi cycles, by two passes.
 pub fn plain(t: &[u64], period: usize, lo: usize, hi: usize) -> [u64; 256]
-    requires { (1 ≤ period) × (period ≤ 256) × (lo ≤ hi) × (hi ≤ lo + 127) × (hi ≤ 65535) × (Fits period t.now) × (period ≤ length t.now) }
+    requires { (1 ≤ period) × Row period t.now × (lo ≤ hi) × (hi ≤ lo + 127) × (hi ≤ 65535) }
     ensures { Passed t.now period lo hi result }
 {
     if lo == hi {
@@ -26,16 +26,14 @@ pub fn plain(t: &[u64], period: usize, lo: usize, hi: usize) -> [u64; 256]
 
 // The table after a plain block of d cycles.
 fn plain_one(t: &[u64], period: usize, d: usize) -> [u64; 256]
-    requires { (1 ≤ period) × (period ≤ 256) × (d ≤ 65535) × (Fits period t.now) × (period ≤ length t.now) }
+    requires { (1 ≤ period) × Row period t.now × (d ≤ 65535) }
     ensures { Passed t.now period d d result }
 {
-    let mut out = [0xffff_ffff_ffff_ffffu64; 256];
+    let mut out = [times::NO_TIME; 256];
     let mut j = (period - d % period) % period;
-    let mut q = 0;
-    while q < period {
+    for q in 0..period {
         out[q] = times::later_by(t[j], d);
         j = bus::turn(j, period);
-        q += 1;
     }
     out
 }
@@ -45,7 +43,7 @@ pub fn key(t: u64, m: usize) -> u64
     requires { (m ≤ 384) × (¬ (t ≡ no_time) → t ≤ 0x1000_0000_0000_0000) }
     ensures { result ≡ key_of t m }
 {
-    if t == 0xffff_ffff_ffff_ffff {
+    if t == times::NO_TIME {
         0
     } else {
         t + (384 - m) as u64
@@ -54,16 +52,14 @@ pub fn key(t: u64, m: usize) -> u64
 
 // The keys of t's entries, round the period as often as len asks; 384 places hold a period of 256 and 127 durations more.
 fn keys(t: &[u64], period: usize, len: usize) -> [u64; 384]
-    requires { (1 ≤ period) × (period ≤ 256) × (len ≤ 384) × (Fits period t.now) × (period ≤ length t.now) }
+    requires { (1 ≤ period) × Row period t.now × (len ≤ 384) }
     ensures { Keyed t.now period len result }
 {
     let mut k = [0u64; 384];
     let mut o = 0;
-    let mut m = 0;
-    while m < len {
+    for m in 0..len {
         k[m] = key(t[o], m);
         o = bus::turn(o, period);
-        m += 1;
     }
     k
 }
@@ -80,7 +76,7 @@ pub fn two_pass(k: &[u64], w: &mut [u64], len: usize, n: usize)
     let mut s = 0;
     while s + n <= len {
         suffixes(w, s, n);
-        let stop = times::least(n, len + 1 - (s + n));
+        let stop = n.min(len + 1 - (s + n));
         prefixes(k, w, s, s + n, stop);
         s += n;
     }
@@ -91,10 +87,8 @@ fn suffixes(w: &mut [u64], s: usize, n: usize)
     requires { (1 ≤ n) × (s + n ≤ length w.old) }
     ensures { Suffixes w.old s n w.new }
 {
-    let mut j = s + n - 1;
-    while s < j {
-        j -= 1;
-        w[j] = times::larger(w[j], w[j + 1]);
+    for j in (s..s + n - 1).rev() {
+        w[j] = w[j].max(w[j + 1]);
     }
 }
 
@@ -103,12 +97,10 @@ fn prefixes(k: &[u64], w: &mut [u64], s: usize, e: usize, stop: usize)
     requires { (1 ≤ stop) × (s + stop ≤ length w.old) × (e + stop ≤ length k.now + 1) }
     ensures { Prefixes k.now w.old s e stop w.new }
 {
-    let mut run = 0;
-    let mut i = 1;
-    while i < stop {
-        run = times::larger(run, k[e + i - 1]);
-        w[s + i] = times::larger(w[s + i], run);
-        i += 1;
+    let mut run = 0u64;
+    for i in 1..stop {
+        run = run.max(k[e + i - 1]);
+        w[s + i] = w[s + i].max(run);
     }
 }
 
@@ -118,7 +110,7 @@ pub fn unkey(x: u64, e: usize) -> u64
     ensures { result ≡ time_at x e }
 {
     if x == 0 {
-        0xffff_ffff_ffff_ffff
+        times::NO_TIME
     } else {
         x + e as u64 - 384
     }
@@ -129,23 +121,21 @@ fn unkeyed(w: &[u64; 384], period: usize, hi: usize) -> [u64; 256]
     requires { (1 ≤ period) × (period ≤ 256) × (hi ≤ 65535) × Room w.now period hi }
     ensures { Unkeyed w.now period hi result }
 {
-    let mut out = [0xffff_ffff_ffff_ffffu64; 256];
+    let mut out = [times::NO_TIME; 256];
     let mut j = (period - hi % period) % period;
-    let mut q = 0;
-    while q < period {
+    for q in 0..period {
         out[q] = unkey(w[j], j + hi);
         j = bus::turn(j, period);
-        q += 1;
     }
     out
 }
 
 // The table after a plain block of lo to hi cycles, up to 255 apart: windows of at most 128 durations at a time.
 pub fn plain_wide(t: &[u64], period: usize, lo: usize, hi: usize) -> [u64; 256]
-    requires { (1 ≤ period) × (period ≤ 256) × (lo ≤ hi) × (hi ≤ lo + 255) × (hi ≤ 65535) × (Fits period t.now) × (period ≤ length t.now) }
+    requires { (1 ≤ period) × Row period t.now × (lo ≤ hi) × (hi ≤ lo + 255) × (hi ≤ 65535) }
     ensures { (length result ≡ 256) × Passed t.now period lo hi result }
 {
-    let mut a = plain(t, period, lo, times::least(hi, lo + 127));
+    let mut a = plain(t, period, lo, hi.min(lo + 127));
     if 127 < hi - lo {
         let b = plain(t, period, lo + 128, hi);
         times::join(&mut a, &b, period);

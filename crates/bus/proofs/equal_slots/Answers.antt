@@ -8,29 +8,11 @@ use Rattle.bus.proofs.EqualSlots.{ones_in, fit, slotted}
 use Rattle.bus.proofs.equal_slots.Goals as goal
 
 -- The slot's offsets, and the others, turned to where they are: the bus of EqualSlots.
-pub overflow_mul-period : goal.overflow_mul-period
-overflow_mul-period c = omega (arith, c.requires.period_most)
-
-pub overflow_mul-first : goal.overflow_mul-first
-overflow_mul-first c = omega (arith, within c.args.v c.requires, c.requires.period_most)
-
-pub below-requires : goal.below-requires
-below-requires c = omega (arith, within c.args.v c.requires, c.requires.period_most)
-
 pub turn-own-requires : goal.turn-own-requires
 turn-own-requires c =
     let v = c.args.v in
     let w = within v c.requires in
     (omega (arith, w, c.requires.slot_least), c.requires.period_most, subst (λ (n : ℕ). n < 2 ^ (v.cores * v.slot)) (sym c.below.ensures) (ones_in v.slot (v.cores * v.slot) (omega (arith, w))))
-
-pub overflow_sub-period : goal.overflow_sub-period
-overflow_sub-period c = omega (arith, within c.args.v c.requires)
-
-pub below-requires-2 : goal.below-requires-2
-below-requires-2 c = omega (arith, c.requires.period_most)
-
-pub overflow_add-first : goal.overflow_add-first
-overflow_add-first c = omega (arith, within c.args.v c.requires, c.requires.period_most)
 
 pub turn-rest-requires : goal.turn-rest-requires
 turn-rest-requires c =
@@ -38,18 +20,12 @@ turn-rest-requires c =
     let w = within v c.requires in
     (omega (arith, w, c.requires.slot_least), c.requires.period_most, subst (λ (n : ℕ). n < 2 ^ (v.cores * v.slot)) (sym c.below-2.ensures) (ones_in (v.cores * v.slot - v.slot) (v.cores * v.slot) (omega arith)))
 
-pub overflow_cast-result : goal.overflow_cast-result
-overflow_cast-result c = omega (arith, within c.args.v c.requires, c.requires.period_most, c.requires.slot_least)
-
-pub overflow_cast-result-2 : goal.overflow_cast-result-2
-overflow_cast-result-2 c = omega (arith, c.requires.slot_most)
-
 pub returns : goal.returns
 returns c =
     let v = c.args.v in
     let ok = has_slot v c.requires in
     let own = c.turn-own.ensures ∙ ap (λ (n : ℕ). turned_by (v.cores * v.slot) (v.core * v.slot) n) c.below.ensures in
     let rest = c.turn-rest.ensures ∙ ap (λ (n : ℕ). turned_by (v.cores * v.slot) (v.core * v.slot + v.slot) n) c.below-2.ensures in (
-      fit (slots_of v) ok c.requires.cores_least c.requires.period_most _ _ own rest _ _ refl refl refl refl,
-      slotted (slots_of v) ok c.requires.cores_least c.requires.period_most _ _ own rest _ _ refl refl refl refl,
+      fit (slots_of v) ok c.requires.cores_least c.requires.period_most _ _ own rest _ refl refl,
+      slotted (slots_of v) ok c.requires.cores_least c.requires.period_most _ _ own rest _ refl refl,
     )

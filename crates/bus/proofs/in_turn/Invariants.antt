@@ -9,7 +9,7 @@ use Rattle.bus.proofs.in_turn.Given as goal
 abbrev pub invariant-loop-a : goal.invariant-loop-a
 invariant-loop-a l =
     (l.a < l.period → (has (value l.s) l.a ≡ true) × (l.count ≡ members (value l.s) l.a)) × (l.count ≡ 0 → l.a ≡ l.first)
-    × Ordered l.period (value l.rest) (value l.s) l.first l.begins l.lengths l.count l.a
+    × Ordered l.period (value l.rest) (value l.s) l.first l.spans l.count l.a
 
 abbrev pub decreases-loop-a : goal.decreases-loop-a
 decreases-loop-a l = l.period - l.a

@@ -1,10 +1,6 @@
-use Prim.Native.Nat.{◌-◌, ◌≤◌}
 use Rattle.bus.specs.Stretches.{LongestOf}
 use Rattle.bus.proofs.longest.Given as goal
 
 -- Before each turn the stretch with the number `best` is a longest of the first i.
 abbrev pub invariant-loop-i : goal.invariant-loop-i
-invariant-loop-i l = (1 ≤ l.i) × (l.i ≤ l.v.count) × LongestOf l.v l.i l.best
-
-abbrev pub decreases-loop-i : goal.decreases-loop-i
-decreases-loop-i l = l.v.count - l.i
+invariant-loop-i l = LongestOf l.v l.i l.best

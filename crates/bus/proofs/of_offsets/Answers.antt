@@ -1,13 +1,9 @@
 use mathlib.Core.Path.{refl}
-use native.Mathlib.Omega.{arith}
 use borrow.Author.Rules.{rules}
 use Rattle.bus.proofs.OfOffsets.{begun_of, fit_whole, fit_either}
 use Rattle.bus.proofs.of_offsets.Goals as goal
 
 -- Every offset, several stretches or one: the bus of OfOffsets.
-pub entered-s-requires : goal.entered-s-requires
-entered-s-requires c = c.requires.0
-
 pub in_turn-stretches-requires : goal.in_turn-stretches-requires
 in_turn-stretches-requires c =
     let begins = c.entered-s in
@@ -19,21 +15,6 @@ returns-then-stretches-eq0 c =
     let low = c.lowest-lowest in
     let list = c.in_turn-stretches in
     (fit_whole c.requires.0 begins.result begins.ensures low.result low.ensures list.result list.ensures c.if-stretches-eq0.true, refl, refl)
-
-pub longest-longest-requires : goal.longest-longest-requires
-longest-longest-requires c =
-    let list = c.in_turn-stretches.ensures in
-    (omega (arith, c.if-stretches-eq0.false), list.few, list.lengths_long)
-
-pub bounds-stretches-longest : goal.bounds-stretches-longest
-bounds-stretches-longest c =
-    let list = c.in_turn-stretches.ensures in
-    omega (arith, c.longest-longest.ensures.below, list.few, list.lengths_long)
-
-pub bounds-stretches-longest-2 : goal.bounds-stretches-longest-2
-bounds-stretches-longest-2 c =
-    let list = c.in_turn-stretches.ensures in
-    omega (arith, c.longest-longest.ensures.below, list.few, list.begins_long)
 
 pub returns : goal.returns
 returns c =

@@ -9,14 +9,6 @@ returns-then-b-o c =
     let low = c.lowest-o in
     cost_none a.b a.lo a.hi a.s c.requires (λ o l. low.ensures.passed o (omega arith) (omega (arith, c.if-b-o.true)))
 
-pub farthest-at-requires : goal.farthest-at-requires
-farthest-at-requires c =
-    let low = c.lowest-o in
-    (c.requires.fit, omega (arith, c.requires.least, c.requires.ordered), c.requires.most, omega (arith, c.if-b-o.false), (low.ensures.found (omega (arith, c.if-b-o.false, c.requires.fit.most))).1)
-
-pub wait-requires : goal.wait-requires
-wait-requires c = (c.requires.fit, omega (arith, c.requires.least, c.requires.ordered), c.requires.most, c.farthest-at.ensures.low)
-
 pub overflow_add-result : goal.overflow_add-result
 overflow_add-result c =
     let a = c.args in

@@ -1,5 +1,5 @@
 use Prim.Native.Nat.{◌<◌}
-use Rattle.exits.proofs.Ready.{most_in, hi_small}
+use Rattle.exits.proofs.Ready.{most_in}
 use Rattle.exits.proofs.Blocks.{always_exited, whole_always}
 use native.Mathlib.Omega.{arith}
 use Rattle.exits.proofs.access_exits.Goals as goal
@@ -10,13 +10,6 @@ part : (c : Else-b) → (let b = c.args.b in b.most < b.period)
 part c =
     let a = c.args in
     omega (arith, most_in a.b a.lo a.hi a.s c.requires, c.if-b.false)
-
--- Each access starts at once or waits for a stretch (`always_exited`); where every offset is owned it passes (`whole_always`).
-pub turn_range-requires : goal.turn_range-requires
-turn_range-requires c =
-    let a = c.args in
-    let r = c.requires in
-    (r.fit.least, r.fit.most, r.within, r.ordered, omega (arith, hi_small a.b a.lo a.hi a.s r))
 
 pub returns-then-b : goal.returns-then-b
 returns-then-b c =

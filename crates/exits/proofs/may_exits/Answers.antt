@@ -12,9 +12,6 @@ turn_range-passed-requires c =
     let r = s.requires in
     (r.fit.least, r.fit.most, r.within, r.ordered, omega (arith, hi_small a.b a.lo a.hi a.s r))
 
-pub waiting-requires : goal.waiting-requires
-waiting-requires c = (c.requires, omega (arith, c.if-b.true))
-
 pub returns-then-b : goal.returns-then-b
 returns-then-b c =
     let a = c.args in

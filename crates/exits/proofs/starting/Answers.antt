@@ -13,48 +13,30 @@ use Rattle.exits.proofs.starting.Goals.{After-next_stretch-n, Start}
 next : (c : After-next_stretch-n) → (
     let l = c.loop-gone in
     let n = c.next_stretch-n.result in
-    Met c.args.b n.at n.len (l.gone + (l.len + n.gap)) × (1 ≤ l.len))
+    Met c.args.b n.stretch.at n.stretch.len (l.gone + (l.x.len + n.gap)) × (1 ≤ l.x.len))
 next c =
     let b = c.args.b in
     let l = c.loop-gone in
     let n = c.next_stretch-n in (
-      met_next b c.requires.0.fit c.requires.1 l.x l.len n.result.gap n.result.at l.gone c.loop-gone-test.true l.invariant.0 n.ensures.0 n.result.len n.ensures.1,
-      some_len b.period (owns b) l.x l.len n.result.gap n.result.at n.ensures.0,
+      met_next b c.requires.0.fit c.requires.1 l.x.at l.x.len n.result.gap n.result.stretch.at l.gone c.loop-gone-test.true l.invariant.0 n.ensures.0 n.result.stretch.len n.ensures.1,
+      some_len b.period (owns b) l.x.at l.x.len n.result.gap n.result.stretch.at n.ensures.0,
     )
-
-pub overflow_sub-p : goal.overflow_sub-p
-overflow_sub-p c = let s : Start = c in omega (arith, (s.requires.0.fit.begins s.requires.1).low)
-
-pub turn-seen-requires : goal.turn-seen-requires
-turn-seen-requires c = let s : Start = c in (s.requires.0.fit.least, s.requires.0.fit.most, s.requires.0.within)
 
 pub loop-gone-init : goal.loop-gone-init
 loop-gone-init c =
-    let a = c.args in (
+    let a = c.args in
+    let (i, at, len, nth) = c.first_stretch-x.ensures in
+    rw (i, at, len) (
       met_first a.b c.requires.0.fit c.requires.1,
       (λ n e. none_served a.b (LastAt a.b n a.lo a.hi) 0 0 (value c.empty-out.result) (omega arith) c.empty-out.ensures),
       c.requires.0.fit.nth c.requires.1,
     )
-
-pub next_stretch-n-requires : goal.next_stretch-n-requires
-next_stretch-n-requires c = (c.requires.0.fit, c.requires.1, c.loop-gone.invariant.2)
 
 pub at_once-requires : goal.at_once-requires
 at_once-requires c =
     let a = c.args in
     let r = c.requires.0 in
     (omega (arith, (next c).0.within, r.fit.most), r.least, r.ordered, hi_small a.b a.lo a.hi a.s r)
-
-pub overflow_add-gone : goal.overflow_add-gone
-overflow_add-gone c = omega (arith, (next c.before.before.before).0.within, c.requires.0.fit.most)
-
-pub overflow_add-gone-in-loop-gone : goal.overflow_add-gone-in-loop-gone
-overflow_add-gone-in-loop-gone c = omega (arith, (next c.before.before.before).0.within, c.requires.0.fit.most)
-
-pub loop-gone-smaller : goal.loop-gone-smaller
-loop-gone-smaller c =
-    let (met, h) = next c.before.before.before in
-    omega (arith, met.within, c.loop-gone-test.true)
 
 pub loop-gone-preserved : goal.loop-gone-preserved
 loop-gone-preserved c =
@@ -65,20 +47,14 @@ loop-gone-preserved c =
     let n = c.next_stretch-n in
     let now = c.at_once in
     let seen = c.turn-seen in
-    let (met, h) = next c.before.before.before in (
+    let (met, h) = next (goal.at.loop-gone-preserved c).After-next_stretch-n in (
       met,
       (λ m e.
-          here_served b c.requires.0.fit c.requires.1 l.x l.len n.result.gap n.result.at l.gone less l.invariant.0 n.ensures.0
+          here_served b c.requires.0.fit c.requires.1 l.x.at l.x.len n.result.gap n.result.stretch.at l.gone less l.invariant.0 n.ensures.0
           (LastAt b m a.lo a.hi) (value l.out) (value now.result) (value c.join-out.result) c.join-out.ensures (l.invariant.1 m e)
-          (last_at b c.requires.0.fit c.requires.1 m a.lo a.hi c.requires.0.least (value seen.result) l.x l.len l.gone (value now.result) e l.invariant.0 (omega (arith, met.within)) now.ensures)),
+          (last_at b c.requires.0.fit c.requires.1 m a.lo a.hi c.requires.0.least (value seen.result) l.x.at l.x.len l.gone (value now.result) e l.invariant.0 (omega (arith, met.within)) now.ensures)),
       n.ensures.2,
     )
-
-pub overflow_add-b : goal.overflow_add-b
-overflow_add-b c = omega (arith, (c.requires.0.fit.begins c.requires.1).low, c.requires.0.fit.most)
-
-pub turn-requires : goal.turn-requires
-turn-requires c = (c.requires.0.fit.least, c.requires.0.fit.most, (c.loop-gone.invariant.1 (value c.args.s) c.turn-seen.ensures).within)
 
 pub returns : goal.returns
 returns c =

@@ -6,9 +6,6 @@ use Rattle.exits.proofs.waited.Goals as goal
 use Rattle.exits.proofs.waited.Goals.{Start}
 
 -- The nearest offset decides: in the gap or in the stretch before (`near_waits`), or further back (`far_waits`).
-pub behind-near-requires : goal.behind-near-requires
-behind-near-requires c = let s : Start = c in (s.requires.1, s.requires.0.most, s.requires.4)
-
 pub returns-then-near-gap : goal.returns-then-near-gap
 returns-then-near-gap c =
     let a = c.args in
@@ -34,7 +31,7 @@ returns c =
     let a = c.args in
     let near = c.behind-near in (
       λ x gone n l so.
-          far_waits a.b.period (owns a.b) (value a.s) x a.len a.gap a.y near.result a.before gone n near.ensures l so c.larger.result
-          (omega (arith, c.if-near-gap-2.false)) (omega (arith, c.larger.ensures)),
-      omega (arith, c.larger.ensures, c.requires.2, c.requires.3, c.requires.0.most),
+          far_waits a.b.period (owns a.b) (value a.s) x a.len a.gap a.y near.result a.before gone n near.ensures l so c.max.result
+          (omega (arith, c.if-near-gap-2.false)) (omega (arith, c.max.ensures)),
+      omega (arith, c.max.ensures, c.requires.2, c.requires.3, c.requires.0.most),
     )

@@ -7,33 +7,27 @@ use Rattle.text.proofs.Answers.{listed_read, read_within, read_text}
 use Rattle.figure.proofs.Whole.{always_bytes}
 use Rattle.figure.proofs.put_listing.Goals as goal
 
--- The listing is no longer than the buffer, so its part of the buffer may be written; the buffer has room, so that nothing else is answered.
+-- The listing is no longer than the buffer, so its part of the buffer may be written; the buffer has room, so that there always is a listing.
 pub slice_bounds-out-end : goal.slice_bounds-out-end
 slice_bounds-out-end g c =
-    let l = c.listing-written in
-    let most = read_within _ _ _ _ (listed_read _ _ l.new.out c.in-Bytes.k l.result l.ensures c.in-Bytes.is) in omega (arith, most)
+    let l = c.listing-listed in
+    let most = read_within _ _ _ _ (listed_read _ _ l.new.out c.in-Ok.k l.result l.ensures c.in-Ok.is) in omega (arith, most)
 
 pub slice_bounds-write_all-end : goal.slice_bounds-write_all-end
 slice_bounds-write_all-end g c =
-    let l = c.listing-written in
-    let most = read_within _ _ _ _ (listed_read _ _ l.new.out c.in-Bytes.k l.result l.ensures c.in-Bytes.is) in
+    let l = c.listing-listed in
+    let most = read_within _ _ _ _ (listed_read _ _ l.new.out c.in-Ok.k l.result l.ensures c.in-Ok.is) in
     sym (length-take-le _ l.new.out (omega (arith, most)))
 
-pub returns-in-Bytes : goal.returns-in-Bytes
-returns-in-Bytes g c =
-    let l = c.listing-written in
-    let whole : take c.in-Bytes.k l.new.out ≡ listing_of c.args.image.now =
-    read_text _ _ l.new.out c.in-Bytes.k (listed_read _ _ l.new.out c.in-Bytes.k l.result l.ensures c.in-Bytes.is) in
+pub returns-in-Ok : goal.returns-in-Ok
+returns-in-Ok g c =
+    let l = c.listing-listed in
+    let whole : take c.in-Ok.k l.new.out ≡ listing_of c.args.image.now =
+    read_text _ _ l.new.out c.in-Ok.k (listed_read _ _ l.new.out c.in-Ok.k l.result l.ensures c.in-Ok.is) in
     rw (← whole) c.write_all.ensures.bytes
 
-pub returns-in-Short : goal.returns-in-Short
-returns-in-Short g c =
-    let l = c.listing-written in
-    let e = always_bytes _ _ l.new.out l.result (omega arith) l.ensures in
-    absurd (cc)
-
-pub returns-in-NoTable : goal.returns-in-NoTable
-returns-in-NoTable g c =
-    let l = c.listing-written in
+pub returns-in-Err : goal.returns-in-Err
+returns-in-Err g c =
+    let l = c.listing-listed in
     let e = always_bytes _ _ l.new.out l.result (omega arith) l.ensures in
     absurd (cc)

@@ -24,4 +24,4 @@ counted t n r h k =
     swap false = refl
 
 pub returns : goal.returns
-returns c = c.count.ensures ∙ counted c.args.t c.args.n c.exit_set.result c.requires c.exit_set.ensures
+returns c = c.count.ensures ∙ counted c.args.t.now c.args.n c.exit_set.result c.requires c.exit_set.ensures

@@ -40,25 +40,23 @@ joined t o m e h = record {
 }
 
 pub loop-o-init : goal.loop-o-init
-loop-o-init c = (omega arith, none_yet _ _ c.empty-out.ensures)
+loop-o-init c = none_yet _ _ c.empty-out.ensures
 
 pub loop-o-preserved : goal.loop-o-preserved
 loop-o-preserved c =
     let l = c.loop-o in
-    let t = c.args.t in (
-      omega arith,
-      elim c.if-t-o.branch [
-        | then-t-o w ↦
-            let is = ap value w.out-is ∙ w.join-out.ensures ∙ ap (bit_or (value l.out)) w.single.ensures in
-            rw is (joined t l.o (value l.out) w.if-t-o.true l.invariant.1)
-        | else-t-o w ↦ rw (ap value w.out-is) (kept t l.o (value l.out) w.if-t-o.false l.invariant.1)
-      ],
-    )
+    let t = c.args.t.now in
+    elim c.if-t-o.branch [
+      | then-t-o w ↦
+          let is = ap value w.out-is ∙ w.join-out.ensures ∙ ap (bit_or (value l.out)) w.single.ensures in
+          rw is (joined t l.o (value l.out) w.if-t-o.true l.invariant)
+      | else-t-o w ↦ rw (ap value w.out-is) (kept t l.o (value l.out) w.if-t-o.false l.invariant)
+    ]
 
 pub returns : goal.returns
 returns c =
     let l = c.loop-o in
     let a = c.args in
     let e : l.o ≡ a.n = omega arith in
-    let h = rw e at l.invariant.1 in
+    let h = rw e at l.invariant in
     record { within = h.within; members = h.members }

@@ -3,7 +3,7 @@ use mathlib.Core.Bool.{not}
 use mathlib.Core.List.{List}
 use lib.Dec.{eqb}
 use lib.ListN.{get_or}
-use Prim.Native.Nat.{ℕ, ◌-◌, ◌^◌, ◌≤◌, ◌<◌}
+use Prim.Native.Nat.{ℕ, ◌^◌, ◌<◌}
 use Rattle.runs.specs.Figures.{no_time}
 use Rattle.offsets.specs.Sets.{value, has}
 use Rattle.figures.proofs.exit_set.Given as goal
@@ -15,7 +15,4 @@ pub record Below (t : List ℕ) (o m : ℕ) : Type 0 where
 
 -- Before each turn the set has just the offsets below o whose place holds a time, since each turn joins o or leaves it out.
 abbrev pub invariant-loop-o : goal.invariant-loop-o
-invariant-loop-o l = (l.o ≤ l.n) × Below l.t l.o (value l.out)
-
-abbrev pub decreases-loop-o : goal.decreases-loop-o
-decreases-loop-o l = l.n - l.o
+invariant-loop-o l = Below l.t l.o (value l.out)

@@ -2,54 +2,31 @@ use mathlib.Core.Path.{◌≡◌, ◌∙◌, ap}
 use mathlib.Core.List.{List}
 use lib.Pow.{pow_pos}
 use lib.Bits.{bit_or}
+use lib.ListN.{length, get_or, take}
 use native.Mathlib.Omega.{arith}
-use Prim.Native.Nat.{ℕ, ◌+◌, ◌^◌}
+use Prim.Native.Nat.{ℕ, ◌+◌, ◌^◌, ◌<◌}
 use Rattle.runs.specs.Runs.{is_start}
 use Rattle.offsets.specs.Sets.{value, has}
 use Rattle.offsets.proofs.Members.{has_none}
-use Rattle.rows.specs.Fields.{length_at}
-use Rattle.image_bytes.specs.Bytes.{byte_at, bytes}
-use Rattle.image.specs.Tasks.{starts_of}
-use Rattle.exits.proofs.Bits.{bits_row}
-use Rattle.nodes.proofs.Lists.{listed_more}
+use Rattle.figures.proofs.Listed.{one_more}
 use Rattle.figures.proofs.OneMore.{has_more, more_lt}
 use Rattle.figures.proofs.start_set.Goals as goal
 
--- Before each turn the set has just the first i starts, and it stays below every period that the starts are below.
+-- Before each turn the set has just the starts so far, and it stays below every period that the starts are below.
 -- one more start is joined
-joined : (s : List ℕ) (p i at m o : ℕ) → at ≡ byte_at s (p + i) → has m o ≡ is_start (bytes s p i) o
-    → has (bit_or m (2 ^ at)) o ≡ is_start (bytes s p (i + 1)) o
-joined s p i at m o e h = rw (has_more m at o, listed_more s p i o, e, h)
+joined : (l : List ℕ) (i m o : ℕ) → i < length l → has m o ≡ is_start (take i l) o
+    → has (bit_or m (2 ^ get_or l i 0)) o ≡ is_start (take (i + 1) l) o
+joined l i m o lt h = rw (has_more m (get_or l i 0) o, one_more l i o lt, h)
 
-pub loop-i-init : goal.loop-i-init
-unfolding bytes is_start
-loop-i-init c = (omega arith, (λ o. rw c.empty-out.ensures (has_none o)), (λ P h. rw c.empty-out.ensures (pow_pos P)))
-
-pub overflow_add-place : goal.overflow_add-place
-overflow_add-place c = omega (arith, c.requires.few, c.requires.near)
-
-pub single-requires : goal.single-requires
-single-requires c = c.byte-o.ensures.1
-
-pub loop-i-preserved : goal.loop-i-preserved
-loop-i-preserved c =
-    let l = c.loop-i in
-    let s = c.args.image.now in
-    let place = c.args.place in
-    let at = c.byte-o.result in
-    let e = c.byte-o.ensures in
-    let is = c.join-out.ensures ∙ ap (bit_or (value l.out)) c.single.ensures in (
-      omega arith,
-      (λ o. rw is (joined s place l.i at (value l.out) o e.0 (l.invariant.1 o))),
-      (λ P h. rw is (more_lt (value l.out) at P (l.invariant.2 P h) (rw e.0 (h l.i (omega arith))))),
+pub loop-o-preserved : goal.loop-o-preserved
+loop-o-preserved c =
+    let l = c.loop-o in
+    let starts = c.args.starts.now in
+    let is = c.join-out.ensures ∙ ap (bit_or (value l.out)) (c.single.ensures ∙ ap (λ (k : ℕ). 2 ^ k) c.from.ensures) in (
+      (λ o. rw is (joined starts l.o-index (value l.out) o (omega arith) (l.invariant.0 o))),
+      (λ P h. rw is (more_lt (value l.out) (get_or starts l.o-index 0) P (l.invariant.1 P h) (h l.o-index (omega arith)))),
     )
 
-pub returns : goal.returns
-returns c =
-    let l = c.loop-i in
-    let s = c.args.image.now in
-    let e : l.i ≡ length_at s 1 = omega (arith, c.requires.count) in
-    record {
-      bits = bits_row c.args.period l.out (is_start (starts_of s)) (λ o h. rw (e, c.requires.stands) at (l.invariant.1 o));
-      within = l.invariant.2 c.args.period c.requires.below;
-    }
+pub loop-o-init : goal.loop-o-init
+unfolding is_start
+loop-o-init c = ((λ o. rw c.empty-out.ensures (has_none o)), (λ P h. rw c.empty-out.ensures (pow_pos P)))

@@ -1,13 +1,15 @@
 use mathlib.Core.Path.{sym, ◌∙◌}
 use native.Mathlib.Omega.{arith}
 use Rattle.graph.specs.Table.{graph_of}
-use Rattle.graph.proofs.Tables.{core_out, time_out, count_out, by_earlier}
+use Rattle.graph.proofs.Tables.{core_out, time_out, count_out, by_earlier, earlier_is}
 use Rattle.graph.proofs.entry_ok.Goals as goal
 
 pub returns : goal.returns
 returns c =
     let a = c.args in
-    c.all_earlier.ensures ∙ sym (by_earlier a.i (graph_of a.table.now a.i) (omega arith) (omega arith) (omega arith))
+    let e = graph_of a.table.now a.i in
+    earlier_is _ a.table.now _ e.count a.i (omega arith) c.all_earlier.ensures
+    ∙ sym (by_earlier a.i e (omega arith) (omega arith) (omega arith))
 
 pub returns-then-table-at-gt15 : goal.returns-then-table-at-gt15
 returns-then-table-at-gt15 c = let a = c.args in sym (core_out a.i (graph_of a.table.now a.i) (omega arith))

@@ -1,28 +1,16 @@
 use native.Mathlib.Omega.{arith}
-use Rattle.graph.proofs.Tables.{too_many, cut, none_there}
+use Rattle.graph.proofs.Tables.{no_size}
 use Rattle.graph.proofs.size.Goals as goal
+use Rattle.graph.proofs.size.Goals.{then-n-eq0-via-then-n-eq0, then-n-eq0-via-else-n-eq0+then-n-gt64, then-n-eq0-via-else-n-eq0+else-n-gt64+then-n-table}
 
 -- The size is the number of whole rows, where they are 1 to 64 and the slice has no more.
-pub returns-then-n-table : goal.returns-then-n-table
-returns-then-n-table c =
-    record {
-      rows = record { few = omega arith; long = omega arith };
-      good = λ h. absurd (omega arith);
-      bad = λ e. cut _ (λ z. omega arith);
-    }
-
 pub returns : goal.returns
-returns c =
-    record {
-      rows = record { few = omega arith; long = omega arith };
-      good = λ h. record { least = h; most = omega arith; rows = omega arith };
-      bad = λ e. none_there _ e;
-    }
+returns c = record { least = omega arith; most = omega arith; rows = omega arith }
 
-pub returns-then-n-gt64 : goal.returns-then-n-gt64
-returns-then-n-gt64 c =
-    record {
-      rows = record { few = omega arith; long = omega arith };
-      good = λ h. absurd (omega arith);
-      bad = λ e. too_many _ (omega arith);
-    }
+pub returns-then-n-eq0 : goal.returns-then-n-eq0
+returns-then-n-eq0 c =
+    elim c.then-n-eq0.branch [
+      | then-n-eq0-via-then-n-eq0 w ↦ no_size _ (λ least most rows. omega arith)
+      | then-n-eq0-via-else-n-eq0+then-n-gt64 w ↦ no_size _ (λ least most rows. omega arith)
+      | then-n-eq0-via-else-n-eq0+else-n-gt64+then-n-table w ↦ no_size _ (λ least most rows. omega arith)
+    ]

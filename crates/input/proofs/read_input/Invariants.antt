@@ -3,7 +3,7 @@ use Rattle.std.specs.Io.KnownBytes.{Consumes}
 use Rattle.input.proofs.read_input.Given as goal
 
 -- So far `done` bytes are read, no more than the buffer has, and they are the reader's first. The measure is the room that is left: an input
--- that is still open has grown.
+-- of which more may come has grown.
 abbrev pub invariant-loop-n : goal.invariant-loop-n
 invariant-loop-n g l = record {
   room : l.done ≤ length l.buffer;

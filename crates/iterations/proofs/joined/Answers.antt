@@ -2,12 +2,6 @@ use mathlib.Core.Path.{refl}
 use Rattle.iterations.proofs.Exits.{turned_joined, turned_only}
 use Rattle.iterations.proofs.joined.Goals as goal
 
-pub join-requires : goal.join-requires
-join-requires c = (c.requires.2, c.requires.1)
-
-pub shape_of-out : goal.shape_of-out
-shape_of-out c = c.join.ensures.0
-
 pub returns-then-least-done : goal.returns-then-least-done
 returns-then-least-done c =
     let a = c.args in

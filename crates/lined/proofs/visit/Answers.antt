@@ -1,6 +1,5 @@
-use mathlib.Core.Path.{refl}
 use native.Mathlib.Nat.{le_trans, le_of_lt, suc-mul, mul-le-mul_right}
-use Prim.Native.Nat.{ℕ, ◌+◌, ◌≤◌, ◌<◌}
+use Prim.Native.Nat.{ℕ, ◌+◌, ◌<◌}
 use native.Mathlib.Omega.{arith}
 use Rattle.lined.proofs.visit.Goals as goal
 
@@ -8,30 +7,15 @@ use Rattle.lined.proofs.visit.Goals as goal
 later_set : (m w : ℕ) → 0 < w → m < m + w
 later_set m w h = omega arith
 
-pub overflow_mul-m : goal.overflow_mul-m
-overflow_mul-m c =
-    let p = c.requires in
-    let e = c.period-period.ensures in
-    omega (arith, mul-le-mul_right c.period-period.result (le_trans (le_of_lt p.0) p.1.few), e, p.1.access.fit.most)
-
-pub overflow_mul-with : goal.overflow_mul-with
-overflow_mul-with c =
-    let a = c.args in
-    let p = c.requires in
-    let e = c.period-period.ensures in
-    let l : a.m + a.weight ≤ 24 = omega (arith, p.0, p.1.few, p.1.light) in
-    omega (arith, mul-le-mul_right c.period-period.result l, e, p.1.access.fit.most)
-
 pub fetched-requires : goal.fetched-requires
 fetched-requires c =
     let a = c.args in
     let p = c.requires in
-    let e = c.period-period.ensures in
     let low = c.if-m-weight-eq0.true in
     let f = p.1.fits a.m (omega arith) p.0 low in
     let q = a.b.period in
     let l : a.m + a.weight < a.sets = p.1.paired a.m p.0 low in
-    rw e (record {
+    record {
       access = p.1.access;
       short = p.1.short;
       order = omega (arith, suc-mul a.m q, mul-le-mul_right q (later_set a.m a.weight p.1.weight_pos));
@@ -39,15 +23,4 @@ fetched-requires c =
       long = omega (arith, suc-mul (a.m + a.weight) q, mul-le-mul_right q l, p.1.long);
       fits = f.0;
       fits_with = f.1;
-    })
-
-pub shape_of-t : goal.shape_of-t
-shape_of-t c = c.fetched.ensures.size
-
-pub returns-then-m-weight-eq0 : goal.returns-then-m-weight-eq0
-returns-then-m-weight-eq0 c =
-    let k = rw c.period-period.ensures at c.fetched.ensures in
-    record { size = k.size; without = λ e. k; with_it = λ ne. absurd (ne c.if-m-weight-eq0.true) }
-
-pub returns-else-m-weight-eq0 : goal.returns-else-m-weight-eq0
-returns-else-m-weight-eq0 c = record { size = refl; without = λ e. absurd (c.if-m-weight-eq0.false e); with_it = λ ne. refl }
+    }

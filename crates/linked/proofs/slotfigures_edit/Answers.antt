@@ -1,5 +1,6 @@
+use borrow.Author.Rules.{rules}
 use native.Mathlib.Omega.{arith}
-use Rattle.edits.specs.declared.Edited.TheVariants.{Done, Refused}
+use Rattle.std.specs.Prelude.{Ok, Err}
 use Rattle.linked.proofs.Calls.{edit_short, edit_call_lem, whole_edit}
 use Rattle.linked.proofs.slotfigures_edit.Goals as goal
 
@@ -10,31 +11,31 @@ returns-then-answer-lt2 c =
     let is = edit_short a.image.now a.node a.lowest a.highest a.answer.now (omega arith) in record {
       equality = is;
       done = whole_edit a.image.now a.node a.lowest a.highest a.answer.now
-          (λ i. omega (arith, c.slice_known-1.given i)) _ _ _ is;
+          (λ i. search rules) _ _ _ is;
     }
 
-pub returns-in-Done : goal.returns-in-Done
-returns-in-Done c =
+pub returns-in-Ok : goal.returns-in-Ok
+returns-in-Ok c =
     let a = c.args in
     let e = c.edit-edited in
     let p = c.done in
     let is =
     edit_call_lem a.image.now a.node a.lowest a.highest a.answer.now (omega arith) e.result e.new.image e.ensures.equality
-    Done c.in-Done.is p.result p.new.answer p.ensures in record {
+    (Ok tt) c.in-Ok.is p.result p.new.answer p.ensures in record {
       equality = is;
       done = whole_edit a.image.now a.node a.lowest a.highest a.answer.now
-          (λ i. omega (arith, c.slice_known-1.given i)) _ _ _ is;
+          (λ i. search rules) _ _ _ is;
     }
 
-pub returns-in-Refused : goal.returns-in-Refused
-returns-in-Refused c =
+pub returns-in-Err : goal.returns-in-Err
+returns-in-Err c =
     let a = c.args in
     let e = c.edit-edited in
     let p = c.refuse in
     let is =
     edit_call_lem a.image.now a.node a.lowest a.highest a.answer.now (omega arith) e.result e.new.image e.ensures.equality
-    (Refused c.in-Refused.r c.in-Refused.place) c.in-Refused.is p.result p.new.answer p.ensures in record {
+    (Err c.in-Err.e) c.in-Err.is p.result p.new.answer p.ensures in record {
       equality = is;
       done = whole_edit a.image.now a.node a.lowest a.highest a.answer.now
-          (λ i. omega (arith, c.slice_known-1.given i)) _ _ _ is;
+          (λ i. search rules) _ _ _ is;
     }

@@ -6,16 +6,16 @@ use Rattle.linked.proofs.slotfigures_judge.Goals as goal
 pub returns-then-answer-lt2 : goal.returns-then-answer-lt2
 returns-then-answer-lt2 c = let a = c.args in judge_short a.image.now a.answer.now (omega arith)
 
-pub returns-in-Accepted : goal.returns-in-Accepted
-returns-in-Accepted c =
+pub returns-in-Ok : goal.returns-in-Ok
+returns-in-Ok c =
     let a = c.args in
     let j = c.judge-judged in
-    judge_accepted a.image.now a.answer.now (omega arith) j.result.verdict j.result.places j.ensures c.in-Accepted.k
-    c.put.new.answer c.in-Accepted.is c.put.ensures
+    judge_accepted a.image.now a.answer.now (omega arith) j.result.verdict j.result.places j.ensures c.in-Ok.k
+    c.put.new.answer c.in-Ok.is c.put.ensures
 
-pub returns-in-Refused : goal.returns-in-Refused
-returns-in-Refused c =
+pub returns-in-Err : goal.returns-in-Err
+returns-in-Err c =
     let a = c.args in
     let j = c.judge-judged in
-    judge_refused a.image.now a.answer.now (omega arith) j.result.verdict j.result.places j.ensures c.in-Refused.r c.in-Refused.place _ c.in-Refused.is
+    judge_refused a.image.now a.answer.now (omega arith) j.result.verdict j.result.places j.ensures c.in-Err.e _ c.in-Err.is
     c.refuse.ensures

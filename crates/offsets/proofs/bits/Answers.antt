@@ -1,7 +1,7 @@
 use mathlib.Core.Path.{subst}
 use native.Mathlib.Omega.{arith}
 use borrow.Author.Rules.{rules}
-use lib.Count.{count_leading_zeros, leading_le}
+use lib.Count.{count_leading_zeros}
 use Prim.Native.Nat.{ℕ, ◌-◌}
 use Rattle.offsets.specs.Sets.{Sized}
 use Rattle.offsets.proofs.Extremes.{sized_zeros, sized_above, sized_here}
@@ -11,12 +11,6 @@ pub returns-then-above-ne0 : goal.returns-then-above-ne0
 returns-then-above-ne0 c =
     let a = c.args in
     (search rules, λ h x. sized_above 64 h a.w a.above (search rules) (omega arith) x)
-
-pub overflow_cast-result : goal.overflow_cast-result
-overflow_cast-result c = omega (arith, leading_le 64 c.args.w)
-
-pub overflow_sub-result : goal.overflow_sub-result
-overflow_sub-result c = leading_le 64 c.args.w
 
 pub returns : goal.returns
 returns c =

@@ -1,6 +1,4 @@
 use mathlib.Core.Path.{◌∙◌, sym}
-use native.Mathlib.Omega.{arith}
-use lib.Count.{ones-le}
 use Rattle.offsets.specs.Sets.{value}
 use borrow.Author.Rules.{rules}
 use Rattle.offsets.proofs.Counts.{ones_four, members_ones}
@@ -8,19 +6,6 @@ use Rattle.offsets.proofs.Words.{value_lt}
 use Rattle.offsets.proofs.count.Goals as goal
 
 -- The ones of the four words are the ones of their number, and those are its members. Each sum fits, as a word has at most 64 ones.
-pub overflow_add-result : goal.overflow_add-result
-overflow_add-result c = let s = c.args.s in omega (arith, ones-le 64 s.w0 (search rules), ones-le 64 s.w1 (search rules))
-
-pub overflow_add-result-2 : goal.overflow_add-result-2
-overflow_add-result-2 c =
-    let s = c.args.s in
-    omega (arith, ones-le 64 s.w0 (search rules), ones-le 64 s.w1 (search rules), ones-le 64 s.w2 (search rules))
-
-pub overflow_add-result-3 : goal.overflow_add-result-3
-overflow_add-result-3 c =
-    let s = c.args.s in
-    omega (arith, ones-le 64 s.w0 (search rules), ones-le 64 s.w1 (search rules), ones-le 64 s.w2 (search rules), ones-le 64 s.w3 (search rules))
-
 pub returns : goal.returns
 returns c =
     let s = c.args.s in

@@ -1,14 +1,13 @@
-use mathlib.Core.Path.{refl, ◌∙◌}
-use borrow.Author.Rules.{rules}
+use mathlib.Core.Path.{◌≡◌, ◌∙◌}
+use native.Mathlib.Omega.{arith}
+use Prim.Native.Nat.{◌+◌, ◌-◌, ◌*◌}
 use Rattle.offsets.specs.Sets.{value}
 use Rattle.offsets.proofs.Shifts.{down_again}
 use Rattle.offsets.proofs.down.Goals as goal
 
-pub loop-left-init : goal.loop-left-init
-loop-left-init c = refl
-
-pub loop-left-preserved : goal.loop-left-preserved
-loop-left-preserved c = let l = c.loop-left in rw c.down_word-t.ensures (down_again (value l.t) l.left (search rules) ∙ l.invariant)
-
-pub returns : goal.returns
-returns c = c.down_bits.ensures ∙ c.loop-left.invariant
+pub loop-preserved : goal.loop-preserved
+loop-preserved c =
+    let l = c.loop in
+    let left = c.args.k - 64 * l.counter in
+    let e : c.args.k - 64 * (l.counter + 1) ≡ left - 64 = omega arith in
+    rw (c.down_word-t.ensures, e) (down_again (value l.t) left (omega arith) ∙ l.invariant)

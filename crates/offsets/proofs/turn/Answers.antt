@@ -1,13 +1,9 @@
 use mathlib.Core.Path.{◌∙◌, ap, ap₂}
 use Prim.Native.Nat.{ℕ, ◌%◌, ◌^◌}
-use native.Mathlib.Nat.{le_of_lt, mod-lt}
 use lib.Bits.{bit_or}
 use Rattle.offsets.specs.Sets.{value}
 use Rattle.offsets.proofs.Rotation.{turn_rotated, rotated_turned}
 use Rattle.offsets.proofs.turn.Goals as goal
-
-pub overflow_sub-back : goal.overflow_sub-back
-overflow_sub-back c = le_of_lt (mod-lt c.args.d c.requires.0)
 
 pub returns : goal.returns
 returns c =

@@ -35,27 +35,19 @@ decreases-walk l = 32768 * l.node + 2
 -- ---- branch
 abbrev pub invariant-branch-loop-i : goal.invariant-branch-loop-i
 invariant-branch-loop-i l =
-    (l.i ≤ l.count)
-    × (visits_all (child_trees l.image (l.place + 2 * l.i) (l.count - l.i)) ≤ 100000)
-    × Within l.k.bus.period l.out
-    × ((o : ℕ) → o < l.k.bus.period
-    → (get_or (bits l.k.bus l.out) o false || after_any l.k.bus (child_trees l.image (l.place + 2 * l.i) (l.count - l.i)) (bits l.k.bus l.s) o)
-    ≡ after_any l.k.bus (child_trees l.image l.place l.count) (bits l.k.bus l.s) o)
-    × (max l.cost (cost_any (bus_meant l.k.bus) (child_trees l.image (l.place + 2 * l.i) (l.count - l.i)) (bits l.k.bus l.s))
-    ≡ cost_any (bus_meant l.k.bus) (child_trees l.image l.place l.count) (bits l.k.bus l.s))
-
-abbrev pub decreases-branch-loop-i : goal.decreases-branch-loop-i
-decreases-branch-loop-i l = l.count - l.i
+    (visits_all (child_trees l.task.image.now (l.place + 2 * l.i) (l.count - l.i)) ≤ 100000)
+    × Within l.task.walk.bus.period l.out
+    × ((o : ℕ) → o < l.task.walk.bus.period
+    → (get_or (bits l.task.walk.bus l.out) o false || after_any l.task.walk.bus (child_trees l.task.image.now (l.place + 2 * l.i) (l.count - l.i)) (bits l.task.walk.bus l.s) o)
+    ≡ after_any l.task.walk.bus (child_trees l.task.image.now l.place l.count) (bits l.task.walk.bus l.s) o)
+    × (max l.cost (cost_any (bus_meant l.task.walk.bus) (child_trees l.task.image.now (l.place + 2 * l.i) (l.count - l.i)) (bits l.task.walk.bus l.s))
+    ≡ cost_any (bus_meant l.task.walk.bus) (child_trees l.task.image.now l.place l.count) (bits l.task.walk.bus l.s))
 
 -- ---- sequence
 abbrev pub invariant-sequence-loop-i : goal.invariant-sequence-loop-i
 invariant-sequence-loop-i l =
-    (l.i ≤ l.count)
-    × (l.cost + 65535 * visits_all (child_trees l.image (l.place + 2 * l.i) (l.count - l.i)) ≤ 6553500000)
-    × Within l.k.bus.period l.cur
-    × (after_all l.k.bus (child_trees l.image (l.place + 2 * l.i) (l.count - l.i)) (bits l.k.bus l.cur) ≡ after_all l.k.bus (child_trees l.image l.place l.count) (bits l.k.bus l.initial.cur))
-    × (l.cost + cost_all (bus_meant l.k.bus) (child_trees l.image (l.place + 2 * l.i) (l.count - l.i)) (bits l.k.bus l.cur)
-    ≡ cost_all (bus_meant l.k.bus) (child_trees l.image l.place l.count) (bits l.k.bus l.initial.cur))
-
-abbrev pub decreases-sequence-loop-i : goal.decreases-sequence-loop-i
-decreases-sequence-loop-i l = l.count - l.i
+    (l.cost + 65535 * visits_all (child_trees l.task.image.now (l.place + 2 * l.i) (l.count - l.i)) ≤ 6553500000)
+    × Within l.task.walk.bus.period l.cur
+    × (after_all l.task.walk.bus (child_trees l.task.image.now (l.place + 2 * l.i) (l.count - l.i)) (bits l.task.walk.bus l.cur) ≡ after_all l.task.walk.bus (child_trees l.task.image.now l.place l.count) (bits l.task.walk.bus l.initial.cur))
+    × (l.cost + cost_all (bus_meant l.task.walk.bus) (child_trees l.task.image.now (l.place + 2 * l.i) (l.count - l.i)) (bits l.task.walk.bus l.cur)
+    ≡ cost_all (bus_meant l.task.walk.bus) (child_trees l.task.image.now l.place l.count) (bits l.task.walk.bus l.initial.cur))

@@ -13,5 +13,5 @@ returns c =
       exited =
           once_exited a.b a.x.line a.x.lowest a.x.highest a.x.hit a.s missed.result hit.result c.join.result missed.ensures
           hit.ensures c.join.ensures;
-      costs = rw (c.larger.ensures, c.access_cost-cost.ensures) refl;
+      costs = rw (c.max.ensures, c.access_cost-cost.ensures) refl;
     }

@@ -1,17 +1,21 @@
-use mathlib.Core.Path.{refl, sym, ◌∙◌}
-use borrow.Author.Tests.{eqb-true}
+use mathlib.Core.Path.{◌≡◌, refl, sym, ◌∙◌, ap}
+use mathlib.Core.Bool.{true, false, true≢false}
+use borrow.Author.Rules.{rules}
 use Rattle.offsets.specs.Sets.{value}
+use Rattle.cycles.specs.Cycles.{renews}
 use Rattle.published.proofs.Watching.{watched_by}
 use Rattle.published.proofs.watched.Goals as goal
 
-pub returns-then-watch-eq0 : goal.returns-then-watch-eq0
-returns-then-watch-eq0 c =
+pub returns-then-is_due : goal.returns-then-is_due
+returns-then-is_due c =
     let a = c.args in
-    watched_by a.p a.kept _ a.w c.same-same.result c.seen-watch.result c.requires.2 c.seen-watch.ensures
-    (λ t. eqb-true (value a.p.cur) (value a.kept.set) (sym c.same-same.ensures ∙ t)) (λ e. refl) (λ n. absurd (n c.if-watch-eq0.true))
+    let due : renews c.seen-watch.result.search ≡ true = search rules in
+    watched_by a.p a.kept _ a.w c.eq-same.result c.seen-watch.result c.requires.2 c.seen-watch.ensures
+    (λ t. ap value (search rules)) (λ e. refl) (λ e. absurd (true≢false (sym due ∙ e)))
 
 pub returns : goal.returns
 returns c =
     let a = c.args in
-    watched_by a.p a.kept a.kept a.w c.same-same.result c.seen-watch.result c.requires.2 c.seen-watch.ensures
-    (λ t. eqb-true (value a.p.cur) (value a.kept.set) (sym c.same-same.ensures ∙ t)) (λ e. absurd (c.if-watch-eq0.false e)) (λ n. refl)
+    let not_due : renews c.seen-watch.result.search ≡ false = search rules in
+    watched_by a.p a.kept a.kept a.w c.eq-same.result c.seen-watch.result c.requires.2 c.seen-watch.ensures
+    (λ t. ap value (search rules)) (λ e. absurd (true≢false (sym e ∙ not_due))) (λ e. refl)

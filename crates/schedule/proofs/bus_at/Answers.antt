@@ -1,13 +1,7 @@
 use mathlib.Core.Path.{sym, ◌∙◌}
-use Rattle.schedule.proofs.Sayings.{said_turns, turns_ranged, slots_ranged, slots_tag, slots_same}
+use Rattle.schedule.proofs.Sayings.{said_turns, slots_tag, slots_same}
 use Rattle.schedule.proofs.Dividing.{divided_same, same_bus}
 use Rattle.schedule.proofs.bus_at.Goals as goal
-
-pub divide-x-requires : goal.divide-x-requires
-divide-x-requires c = turns_ranged c.args.image.now c.requires (sym c.byte.ensures.0 ∙ c.if-byte-eq9.true)
-
-pub of_offsets-requires : goal.of_offsets-requires
-of_offsets-requires c = (c.divide-x.ensures.parted, c.divide-x.ensures.few)
 
 pub returns-then-byte-eq9 : goal.returns-then-byte-eq9
 returns-then-byte-eq9 c =
@@ -15,11 +9,6 @@ returns-then-byte-eq9 c =
     let r = c.of_offsets in
     let e = sym c.byte.ensures.0 ∙ c.if-byte-eq9.true in
     (r.ensures.0, same_bus _ _ (divided_same c.args.image.now d.result r.result d.ensures r.ensures.1 r.ensures.2 ∙ sym (said_turns c.args.image.now e)))
-
-pub equal_slots-requires : goal.equal_slots-requires
-equal_slots-requires c =
-    rw (c.byte-2.ensures.0, c.byte-3.ensures.0, c.byte-4.ensures.0)
-    (slots_ranged c.args.image.now c.requires (λ q. c.if-byte-eq9.false (c.byte.ensures.0 ∙ q)))
 
 pub returns : goal.returns
 returns c =

@@ -6,37 +6,8 @@ use lib.Bits.{bit_or}
 use lib.Dec.{eqb}
 use Rattle.offsets.specs.Sets.{value}
 use Rattle.image_bytes.specs.Bytes.{byte_at}
-use Rattle.schedule.proofs.Dividing.{cycles, sofar_first, sofar_fits, sofar_next, divides}
+use Rattle.schedule.proofs.Dividing.{cycles, sofar_next, divides}
 use Rattle.schedule.proofs.divide.Goals as goal
-
-pub loop-i-init : goal.loop-i-init
-loop-i-init c = sofar_first c.args.image.now _ _ c.empty-own.ensures c.empty-rest.ensures
-
-pub overflow_mul-i : goal.overflow_mul-i
-overflow_mul-i c = omega (arith, c.word-pairs.ensures.1)
-
-pub overflow_add-i : goal.overflow_add-i
-overflow_add-i c = omega (arith, c.word-pairs.ensures.1)
-
-pub overflow_mul-i-in-loop-i : goal.overflow_mul-i-in-loop-i
-overflow_mul-i-in-loop-i c = omega (arith, c.word-pairs.ensures.1)
-
-pub overflow_add-i-in-loop-i : goal.overflow_add-i-in-loop-i
-overflow_add-i-in-loop-i c = omega (arith, c.word-pairs.ensures.1)
-
-pub overflow_add-i-in-loop-i-2 : goal.overflow_add-i-in-loop-i-2
-overflow_add-i-in-loop-i-2 c = omega (arith, c.word-pairs.ensures.1)
-
-pub below-requires : goal.below-requires
-below-requires c = omega (arith, c.byte-slot.ensures.1)
-
-pub overflow_add-at : goal.overflow_add-at
-overflow_add-at c =
-    let l = c.loop-i in
-    omega (arith, sofar_fits c.args.image.now c.requires _ _ l.at l.i l.invariant, c.byte-slot.ensures.1)
-
-pub overflow_add-i-in-loop-i-3 : goal.overflow_add-i-in-loop-i-3
-overflow_add-i-in-loop-i-3 c = omega (arith, c.word-pairs.ensures.1)
 
 pub loop-i-preserved : goal.loop-i-preserved
 loop-i-preserved c =

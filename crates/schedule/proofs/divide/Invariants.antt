@@ -1,4 +1,3 @@
-use Prim.Native.Nat.{◌-◌}
 use Rattle.offsets.specs.Sets.{value}
 use Rattle.schedule.proofs.Dividing.{Sofar}
 use Rattle.schedule.proofs.divide.Given as goal
@@ -6,6 +5,3 @@ use Rattle.schedule.proofs.divide.Given as goal
 -- The invariant is `Sofar` of proofs/Dividing.antt.
 abbrev pub invariant-loop-i : goal.invariant-loop-i
 invariant-loop-i l = Sofar l.image (value l.own) (value l.rest) l.at l.i
-
-abbrev pub decreases-loop-i : goal.decreases-loop-i
-decreases-loop-i l = l.pairs - l.i

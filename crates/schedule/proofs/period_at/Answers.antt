@@ -2,21 +2,14 @@ use mathlib.Core.Path.{◌≡◌, sym, ◌∙◌}
 use native.Mathlib.Omega.{arith}
 use Prim.Native.Nat.{◌*◌}
 use Rattle.schedule.specs.Said.{said}
-use Rattle.schedule.proofs.Numbers.{product_fits}
 use Rattle.schedule.proofs.Sayings.{turns_period, slots_period, slots_tag, said_small}
 use Rattle.schedule.proofs.period_at.Goals as goal
-
-pub sum_of-requires : goal.sum_of-requires
-sum_of-requires c = (omega arith, omega (arith, c.word.ensures.1))
 
 pub returns-then-byte-eq9 : goal.returns-then-byte-eq9
 returns-then-byte-eq9 c =
     let e = sym c.byte.ensures.0 ∙ c.if-byte-eq9.true in
     let z = rw c.word.ensures.0 at c.sum_of.ensures ∙ sym (turns_period c.args.image.now e) in
     (z, omega (arith, z, (said_small c.args.image.now c.requires).0))
-
-pub overflow_mul-result : goal.overflow_mul-result
-overflow_mul-result c = product_fits _ _ (omega (arith, c.byte-2.ensures.1)) (omega (arith, c.byte-3.ensures.1))
 
 pub returns : goal.returns
 returns c =

@@ -27,18 +27,15 @@ pub loop-i-init : goal.loop-i-init
 loop-i-init c =
     let a = c.args in
     let z : a.body + 1 + 2 * 0 ≡ a.body + 1 = omega arith in
-    (omega arith, omega arith, rw (z, sub-zero (a.len / 2), c.byte-core.ensures.0) (goes_first (schedule_of a.image.now a.body a.len)))
+    (omega arith, rw (z, sub-zero (a.len / 2), c.byte-core.ensures.0) (goes_first (schedule_of a.image.now a.body a.len)))
 
 pub returns-then-not-between : goal.returns-then-not-between
 returns-then-not-between c =
     let l = c.loop-i in
     let a = c.args in
-    at_pair a.image.now a.body a.len _ _ _ l.i _ false (omega arith) l.invariant.2
+    at_pair a.image.now a.body a.len _ _ _ l.i _ false (omega arith) l.invariant.1
     (length_wrong _ _ _ _ _ (omega (arith, c.byte-owner.ensures.0))
     (rw (sym c.byte-slot.ensures.0) (sym c.between.ensures ∙ c.if-not-between.true)))
-
-pub overflow_add-sum : goal.overflow_add-sum
-overflow_add-sum c = omega (arith, c.byte-slot.ensures.1, c.loop-i.invariant.1)
 
 pub loop-i-preserved : goal.loop-i-preserved
 loop-i-preserved c =
@@ -49,10 +46,9 @@ loop-i-preserved c =
     let low : byte_at a.image.now (a.body + 1 + 2 * l.i) ≤ 15 = omega (arith, e) in
     let good : within 1 128 (byte_at a.image.now (a.body + 1 + 2 * l.i + 1)) ≡ true = rw (sym f) (sym c.between.ensures ∙ c.if-not-between.false) in (
       omega arith,
-      omega arith,
       elim c.if-owner-core.branch [
-        | then-owner-core w ↦ rw (w.found-is, f) (at_pair a.image.now a.body a.len _ _ _ l.i _ _ (omega arith) l.invariant.2 (goes_found _ _ _ _ _ low good (sym e ∙ w.if-owner-core.true)))
-        | else-owner-core w ↦ rw (w.found-is, f) (at_pair a.image.now a.body a.len _ _ _ l.i _ _ (omega arith) l.invariant.2 (goes_other _ _ _ _ _ low good (λ q. w.if-owner-core.false (e ∙ q))))
+        | then-owner-core w ↦ rw (w.found-is, f) (at_pair a.image.now a.body a.len _ _ _ l.i _ _ (omega arith) l.invariant.1 (goes_found _ _ _ _ _ low good (sym e ∙ w.if-owner-core.true)))
+        | else-owner-core w ↦ rw (w.found-is, f) (at_pair a.image.now a.body a.len _ _ _ l.i _ _ (omega arith) l.invariant.1 (goes_other _ _ _ _ _ low good (λ q. w.if-owner-core.false (e ∙ q))))
       ],
     )
 
@@ -60,18 +56,18 @@ pub returns : goal.returns
 returns c =
     let l = c.loop-i in
     let a = c.args in
-    sym (ap (goes_on _ l.found l.sum) (turns_none a.image.now (a.body + 1) (a.len / 2) l.i (omega arith)) ∙ goes_last _ l.found l.sum l.invariant.1) ∙ l.invariant.2
+    sym (ap (goes_on _ l.found l.sum) (turns_none a.image.now (a.body + 1) (a.len / 2) l.i (omega arith)) ∙ goes_last _ l.found l.sum l.invariant.0) ∙ l.invariant.1
 
 pub returns-then-owner-gt15 : goal.returns-then-owner-gt15
 returns-then-owner-gt15 c =
     let l = c.loop-i in
     let a = c.args in
-    at_pair a.image.now a.body a.len _ _ _ l.i _ false (omega arith) l.invariant.2
+    at_pair a.image.now a.body a.len _ _ _ l.i _ false (omega arith) l.invariant.1
     (core_above _ _ _ _ _ (omega (arith, c.byte-owner.ensures.0)))
 
 pub returns-then-sum-gt256 : goal.returns-then-sum-gt256
 returns-then-sum-gt256 c =
     let l = c.loop-i in
     let a = c.args in
-    at_pair a.image.now a.body a.len _ _ _ l.i _ false (omega arith) l.invariant.2
+    at_pair a.image.now a.body a.len _ _ _ l.i _ false (omega arith) l.invariant.1
     (sum_above _ _ _ _ _ (omega (arith, c.byte-slot.ensures.0)))

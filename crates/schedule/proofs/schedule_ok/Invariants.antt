@@ -12,7 +12,4 @@ abbrev pub from : List ℕ → ℕ → ℕ → ℕ → Bool → ℕ → ℕ → 
 from s body len core found sum i = goes_on core found sum (turns_at s (body + 1 + 2 * i) (len / 2 - i))
 
 abbrev pub invariant-loop-i : goal.invariant-loop-i
-invariant-loop-i l = (l.i ≤ l.len / 2) × (l.sum ≤ 256) × (from l.image l.body l.len l.core l.found l.sum l.i ≡ schedule_ok (schedule_of l.image l.body l.len))
-
-abbrev pub decreases-loop-i : goal.decreases-loop-i
-decreases-loop-i l = l.len / 2 - l.i
+invariant-loop-i l = (l.sum ≤ 256) × (from l.image l.body l.len l.core l.found l.sum l.i ≡ schedule_ok (schedule_of l.image l.body l.len))

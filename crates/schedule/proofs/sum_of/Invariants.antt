@@ -6,7 +6,4 @@ use Rattle.schedule.proofs.sum_of.Given as goal
 
 -- The invariant: the sum so far and the lengths from pair i on are the whole.
 abbrev pub invariant-loop-i : goal.invariant-loop-i
-invariant-loop-i l = (l.i ≤ l.pairs) × (l.sum ≤ 255 * l.i) × (l.sum + total (turns_at l.image (l.place + 2 * l.i) (l.pairs - l.i)) ≡ total (turns_at l.image l.place l.pairs))
-
-abbrev pub decreases-loop-i : goal.decreases-loop-i
-decreases-loop-i l = l.pairs - l.i
+invariant-loop-i l = (l.sum ≤ 255 * l.i) × (l.sum + total (turns_at l.image (l.place + 2 * l.i) (l.pairs - l.i)) ≡ total (turns_at l.image l.place l.pairs))

@@ -10,21 +10,23 @@ use Rattle.starting.proofs.now_all.Goals.{After-next_stretch-n}
 
 -- a turn goes on by some cycles, and not past the first
 goes_on : (c : After-next_stretch-n) → (
-    (1 ≤ c.loop-gone.len) × (c.loop-gone.gone + (c.loop-gone.len + c.next_stretch-n.result.gap) ≤ c.args.b.period))
+    (1 ≤ c.loop-gone.x.len) × (c.loop-gone.gone + (c.loop-gone.x.len + c.next_stretch-n.result.gap) ≤ c.args.b.period))
 goes_on c =
     let b = c.args.b in
     let p = c.requires in
     let l = c.loop-gone in
     let n = c.next_stretch-n.ensures.0 in (
-      some_len b.period (owns b) l.x l.len _ _ n,
-      round b.period (owns b) b.first (p.0.begins p.1) l.gone l.x l.len _ _ c.loop-gone-test.true l.invariant.4 n,
+      some_len b.period (owns b) l.x.at l.x.len _ _ n,
+      round b.period (owns b) b.first (p.0.begins p.1) l.gone l.x.at l.x.len _ _ c.loop-gone-test.true l.invariant.4 n,
     )
 
 pub loop-gone-init : goal.loop-gone-init
 loop-gone-init c =
     let a = c.args in
     let p = c.requires in
-    let first = p.0.begins p.1 in (
+    let first = p.0.begins p.1 in
+    let (i, at, len, nth) = c.first_stretch-x.ensures in
+    rw (i, at, len) (
       omega arith,
       p.6,
       refl,
@@ -42,20 +44,8 @@ now_in-requires c =
     let b = c.args.b in
     let l = c.loop-gone in
     let v = l.invariant in
-    let short = (begun b.period (owns b) l.x l.len v.5 (record { run = λ h. v.6; all = λ h i m. v.6.owned i (omega arith) })).0 in
-    (omega (arith, v.5.low), p.0.most, omega (arith, short, p.0.most), p.2, p.3, p.4, p.5, v.2, v.3, v.1, p.7)
-
-pub next_stretch-n-requires : goal.next_stretch-n-requires
-next_stretch-n-requires c = (c.requires.0, c.requires.1, c.loop-gone.invariant.8)
-
-pub overflow_add-gone : goal.overflow_add-gone
-overflow_add-gone c = omega (arith, goes_on (goal.at.overflow_add-gone c).After-next_stretch-n, c.requires.0.most)
-
-pub overflow_add-gone-in-loop-gone : goal.overflow_add-gone-in-loop-gone
-overflow_add-gone-in-loop-gone c = omega (arith, goes_on (goal.at.overflow_add-gone-in-loop-gone c).After-next_stretch-n, c.requires.0.most)
-
-pub loop-gone-smaller : goal.loop-gone-smaller
-loop-gone-smaller c = omega (arith, goes_on (goal.at.loop-gone-smaller c).After-next_stretch-n)
+    let short = (begun b.period (owns b) l.x.at l.x.len v.5 (record { run = λ h. v.6; all = λ h i m. v.6.owned i (omega arith) })).0 in
+    (omega (arith, v.5.low), record { most = p.0.most; fits = p.5; long = p.7 }, omega (arith, short, p.0.most), p.2, p.3, p.4, v.2, v.3, v.1)
 
 pub loop-gone-preserved : goal.loop-gone-preserved
 loop-gone-preserved c =
@@ -71,10 +61,10 @@ loop-gone-preserved c =
       in'.2,
       in'.0,
       in'.1,
-      next_place b.period (owns b) b.first first l.gone l.x l.len _ _ few l.invariant.4 n.0,
-      next_begins b.period (owns b) l.x l.len _ _ n.0,
+      next_place b.period (owns b) b.first first l.gone l.x.at l.x.len _ _ few l.invariant.4 n.0,
+      next_begins b.period (owns b) l.x.at l.x.len _ _ n.0,
       n.1,
-      up_more b.period (owns b) _ b.first a.lo a.hi first l.gone l.x l.len _ _ _ _ few l.invariant.4 n.0 _ _ _ l.invariant.7 in'.3 (omega arith)
+      up_more b.period (owns b) _ b.first a.lo a.hi first l.gone l.x.at l.x.len _ _ _ _ few l.invariant.4 n.0 _ _ _ l.invariant.7 in'.3 (omega arith)
           (omega arith),
       n.2,
     )

@@ -1,5 +1,5 @@
 use mathlib.Core.Path.{◌≡◌, refl, sym, ◌∙◌, ap, subst}
-use Prim.Native.Nat.{ℕ, suc, ◌+◌, ◌-◌, ◌%◌}
+use Prim.Native.Nat.{ℕ, suc, ◌+◌, ◌-◌, ◌%◌, ◌≤◌}
 use native.Mathlib.Nat.{mod-lt, mod-add-mod}
 use lib.ListN.{length-set}
 use Rattle.runs.specs.Exact.{Longest}
@@ -13,8 +13,8 @@ use Rattle.starting.proofs.now_in.Goals as goal
 use Rattle.starting.proofs.now_in.Goals.{After-window-x}
 
 -- what the turn knows of the largest key so far, and of the window that ends at y
-run_is : (c : After-window-x) → c.larger-next.result ≡ top c.keys_in.new.k 0 (suc (c.loop-y.y - c.args.lo))
-run_is c = top_next _ _ _ _ c.loop-y.invariant.9 c.larger-next.ensures
+run_is : (c : After-window-x) → c.max-run.result ≡ top c.keys_in.new.k 0 (suc (c.loop-y.y - c.args.lo))
+run_is c = top_next _ _ _ _ c.loop-y.invariant.7 c.max-run.ensures
 
 ends : (c : After-window-x) → (
     Turns c.window-x.result c.loop-y.y
@@ -24,27 +24,25 @@ ends c =
     let a = c.args in
     let p = c.requires in
     let l = c.loop-y in
-    let in' = c.loop-y-test.true in
-    ends_at a.period (omega (arith, p.0)) _ _ a.a a.len a.lo a.hi p.2 p.3 p.4 p.6 l.invariant.7 l.y l.invariant.0 in' c.window-x.result
-    (window_top _ _ a.len a.lo a.hi l.y c.larger-next.result c.window-x.result p.3 p.4 l.invariant.0 in' (run_is c) l.invariant.8
+    let in' : c.loop-y.y ≤ c.args.len = omega (arith, c.loop-y-test.true) in
+    ends_at a.period (omega (arith, p.0)) _ _ a.a a.len a.lo a.hi p.2 p.3 p.4 p.1.fits l.invariant.5 l.y (omega arith) in' c.window-x.result
+    (window_top _ _ a.len a.lo a.hi l.y c.max-run.result c.window-x.result p.3 p.4 (omega arith) in' (run_is c) l.invariant.6
     (λ h. c.window-x.ensures.0 (omega arith)) (λ h. c.window-x.ensures.1 (omega arith)))
 
 pub returns-then-len-lo : goal.returns-then-len-lo
 returns-then-len-lo c =
     let a = c.args in
     let p = c.requires in
-    (p.7, p.8, p.9, now_done a.period _ a.a a.len a.lo a.hi (suc a.len) _ _ refl (now_none _ _ _ _ _ _ _ (omega (arith, c.if-len-lo.true))))
+    (p.6, p.7, p.8, now_done a.period _ a.a a.len a.lo a.hi (suc a.len) _ _ refl (now_none _ _ _ _ _ _ _ (omega (arith, c.if-len-lo.true))))
 
 pub loop-y-init : goal.loop-y-init
 loop-y-init c =
     let a = c.args in
     let k = c.keys_in.ensures in
     let z : a.lo - a.lo ≡ 0 = omega arith in (
-      omega arith,
-      omega (arith, c.if-len-lo.false),
       k.0,
       c.two_pass.ensures.0 ∙ k.1,
-      c.requires.9,
+      c.requires.8,
       mod-lt (a.a + a.lo) (omega (arith, c.requires.0)),
       refl,
       k.2,
@@ -65,19 +63,17 @@ loop-y-preserved c =
     let v = l.invariant in
     let on : a.a + l.y + 1 ≡ a.a + (l.y + 1) = omega arith in
     let q : c.turn-q.result ≡ (a.a + (l.y + 1)) % a.period =
-    c.turn-q.ensures ∙ ap (λ (x : ℕ). (x + 1) % a.period) v.6 ∙ mod-add-mod (a.a + l.y) a.period 1 ∙ ap (λ (x : ℕ). x % a.period) on in
-    let n : suc (l.y - a.lo) ≡ l.y + 1 - a.lo = omega (arith, v.0) in (
-      omega (arith, v.0),
-      omega (arith, c.loop-y-test.true),
-      v.2,
-      v.3,
-      simp length-set (omega (arith, v.4)),
+    c.turn-q.ensures ∙ ap (λ (x : ℕ). (x + 1) % a.period) v.4 ∙ mod-add-mod (a.a + l.y) a.period 1 ∙ ap (λ (x : ℕ). x % a.period) on in
+    let n : suc (l.y - a.lo) ≡ l.y + 1 - a.lo = omega arith in (
+      v.0,
+      v.1,
+      simp length-set (omega (arith, v.2)),
       omega (arith, q, mod-lt (a.a + (l.y + 1)) {m = a.period} (omega (arith, p.0))),
       q,
-      v.7,
-      v.8,
-      subst (λ (x : ℕ). w.larger-next.result ≡ top w.keys_in.new.k 0 x) n (run_is w),
-      now_more a.period _ a.a a.lo a.hi l.y _ _ _ _ c.unkey.result _ (omega arith) v.6 (omega (arith, v.4, v.5, p.1)) v.10
+      v.5,
+      v.6,
+      subst (λ (x : ℕ). w.max-run.result ≡ top w.keys_in.new.k 0 x) n (run_is w),
+      now_more a.period _ a.a a.lo a.hi l.y _ _ _ _ c.unkey.result _ (omega arith) v.4 (omega (arith, v.2, v.3, p.1.most)) v.8
           ((ends w).1 c.unkey.result c.unkey.ensures) c.longer_of.ensures,
     )
 
@@ -85,4 +81,4 @@ pub returns : goal.returns
 returns c =
     let a = c.args in
     let l = c.loop-y in
-    (l.invariant.2, l.invariant.3, l.invariant.4, now_done a.period _ a.a a.len a.lo a.hi l.y _ _ (omega (arith, l.invariant.1, c.loop-y-test.false)) l.invariant.10)
+    (l.invariant.0, l.invariant.1, l.invariant.2, now_done a.period _ a.a a.len a.lo a.hi l.y _ _ (omega (arith, c.loop-y-test.false, c.if-len-lo.false)) l.invariant.8)

@@ -10,17 +10,12 @@ use borrow.Author.Rules.{rules}
 use Rattle.steps.proofs.always_step.Goals as goal
 
 -- What starts at once, with what waits; where the core owns every offset, every access starts at once.
-pub plain_wide-requires : goal.plain_wide-requires
-plain_wide-requires c =
-    let p = c.requires in
-    (p.fit.least, p.fit.most, p.order, omega (arith, p.short), omega (arith, p.short), p.fits, p.long)
-
+-- a bus whose longest access is not the period has an offset that is not owned
 pub returns-then-b : goal.returns-then-b
 returns-then-b c =
     let a = c.args in
     whole_always a.b a.lo a.hi _ c.requires (omega (arith, c.if-b.true)) _ c.plain_wide.ensures.1
 
--- a bus whose longest access is not the period has an offset that is not owned
 pub now_all-requires : goal.now_all-requires
 now_all-requires c =
     let a = c.args in

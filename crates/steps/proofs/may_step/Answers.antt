@@ -3,16 +3,6 @@ use Rattle.steps.proofs.Steps.{may_on, whole_may}
 use Rattle.steps.proofs.may_step.Goals as goal
 
 -- What passes, with what waits; where the core owns every offset, nothing does.
-pub plain_wide-out-requires : goal.plain_wide-out-requires
-plain_wide-out-requires c =
-    let p = c.requires in
-    (p.fit.least, p.fit.most, p.order, omega (arith, p.short), omega (arith, p.short), p.fits, p.long)
-
-pub arrive_all-requires : goal.arrive_all-requires
-arrive_all-requires c =
-    let p = c.requires in
-    (p.fit, c.if-b.true, p.least, p.order, omega (arith, p.short), p.fits, c.plain_wide-out.ensures.0, p.long)
-
 pub returns-then-b : goal.returns-then-b
 returns-then-b c =
     let a = c.args in

@@ -2,11 +2,6 @@ use Rattle.steps.proofs.Steps.{plain_stepped}
 use Rattle.steps.proofs.plain_step.Goals as goal
 
 -- The inner step at the bus's period is the definition's.
-pub plain-requires : goal.plain-requires
-plain-requires c =
-    let p = c.requires in
-    (p.fit.least, p.fit.most, p.order, p.near, p.short, p.fits, p.long)
-
 pub returns : goal.returns
 returns c =
     let a = c.args in

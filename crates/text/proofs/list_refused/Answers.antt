@@ -1,3 +1,4 @@
+use borrow.Author.Rules.{rules}
 use native.Mathlib.Omega.{arith}
 use Rattle.text.specs.Text.{refused_line}
 use Rattle.text.proofs.Lines.{refused_most}
@@ -8,10 +9,11 @@ use Rattle.text.proofs.list_refused.Goals as goal
 pub returns-then-out-lt-ENOUGH : goal.returns-then-out-lt-ENOUGH
 returns-then-out-lt-ENOUGH c = let a = c.args in listed_short (refused_line a.number a.place) a.out.now c.if-out-lt-ENOUGH.true
 
-pub put_refused-n-requires : goal.put_refused-n-requires
-put_refused-n-requires c = omega (arith, refused_most c.args.number c.args.place c.ranges.number.fits c.ranges.place.fits)
+pub refused-requires : goal.refused-requires
+refused-requires c = omega (arith, refused_most c.args.number c.args.place c.ranges.number.fits c.ranges.place.fits)
 
 pub returns : goal.returns
 returns c =
     let a = c.args in
-    listed_bytes (refused_line a.number a.place) a.out.now c.if-out-lt-ENOUGH.false c.put_refused-n.ensures
+    listed_bytes (refused_line a.number a.place) a.out.now c.if-out-lt-ENOUGH.false
+    (record { ends = omega (arith, c.refused.ensures.wrote.ends); bytes = search rules })

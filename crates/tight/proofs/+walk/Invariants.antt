@@ -1,4 +1,4 @@
-use Prim.Native.Nat.{ℕ, ◌+◌, ◌-◌, ◌*◌, ◌≤◌, ◌<◌, max}
+use Prim.Native.Nat.{ℕ, ◌+◌, ◌-◌, ◌*◌, ◌<◌, max}
 use mathlib.Core.Path.{◌≡◌}
 use mathlib.Core.Option.{none}
 use lib.ListN.{length, get_or}
@@ -42,21 +42,15 @@ decreases-wide_turns l = 32768 * l.node + 1
 -- ---- arms
 abbrev pub invariant-arms-loop-i : goal.invariant-arms-loop-i
 invariant-arms-loop-i l =
-    (l.i ≤ l.count) × (length l.out ≡ length l.initial.out) × (length l.arm ≡ length l.initial.arm)
-    × Roomy l.k (65535 * visits_all (child_trees l.image (l.place + 2 * l.i) (l.count - l.i))) (table l.k l.t)
-    × ((o : ℕ) → o < size_of l.k
-    → longer (get_or (table l.k l.out) o none) (after_any l.k (child_trees l.image (l.place + 2 * l.i) (l.count - l.i)) (table l.k l.t) o)
-    ≡ after_any l.k (child_trees l.image l.place l.count) (table l.k l.t) o)
-
-abbrev pub decreases-arms-loop-i : goal.decreases-arms-loop-i
-decreases-arms-loop-i l = l.count - l.i
+    (length l.out ≡ length l.initial.out) × (length l.arm ≡ length l.initial.arm)
+    × Roomy l.task.walk (65535 * visits_all (child_trees l.task.image.now (l.place + 2 * l.i) (l.count - l.i))) (table l.task.walk l.t)
+    × ((o : ℕ) → o < size_of l.task.walk
+    → longer (get_or (table l.task.walk l.out) o none) (after_any l.task.walk (child_trees l.task.image.now (l.place + 2 * l.i) (l.count - l.i)) (table l.task.walk l.t) o)
+    ≡ after_any l.task.walk (child_trees l.task.image.now l.place l.count) (table l.task.walk l.t) o)
 
 -- ---- sequence
 abbrev pub invariant-sequence-loop-i : goal.invariant-sequence-loop-i
 invariant-sequence-loop-i l =
-    (l.i ≤ l.count) × (length l.t ≡ length l.initial.t)
-    × Roomy l.k (65535 * visits_all (child_trees l.image (l.place + 2 * l.i) (l.count - l.i))) (table l.k l.t)
-    × (after_all l.k (child_trees l.image (l.place + 2 * l.i) (l.count - l.i)) (table l.k l.t) ≡ after_all l.k (child_trees l.image l.place l.count) (table l.k l.initial.t))
-
-abbrev pub decreases-sequence-loop-i : goal.decreases-sequence-loop-i
-decreases-sequence-loop-i l = l.count - l.i
+    (length l.t ≡ length l.initial.t)
+    × Roomy l.task.walk (65535 * visits_all (child_trees l.task.image.now (l.place + 2 * l.i) (l.count - l.i))) (table l.task.walk l.t)
+    × (after_all l.task.walk (child_trees l.task.image.now (l.place + 2 * l.i) (l.count - l.i)) (table l.task.walk l.t) ≡ after_all l.task.walk (child_trees l.task.image.now l.place l.count) (table l.task.walk l.initial.t))

@@ -12,14 +12,8 @@ each_row-requires-in-Always c =
     let h = c.requires.1 in
     (c.requires.0, h.sized.few, rw h.sized.sets_is h.size, sets_fit c.args.k c.args.t.now h)
 
-pub shape_of-t-in-May : goal.shape_of-t-in-May
-shape_of-t-in-May c = (c.each_row.ensures c.args.k.outline.lines c.requires.1.sized.sets_is).size
-
 pub returns-in-May : goal.returns-in-May
 returns-in-May c = rw c.in-May.is (c.each_row.ensures c.args.k.outline.lines c.requires.1.sized.sets_is)
-
-pub shape_of-t-in-Always : goal.shape_of-t-in-Always
-shape_of-t-in-Always c = (c.each_row-in-Always.ensures c.args.k.outline.lines c.requires.1.sized.sets_is).size
 
 pub returns-in-Always : goal.returns-in-Always
 returns-in-Always c = rw c.in-Always.is (c.each_row-in-Always.ensures c.args.k.outline.lines c.requires.1.sized.sets_is)

@@ -1,20 +1,11 @@
-use native.Mathlib.Omega.{arith}
 use Rattle.tight.proofs.Leaves.{once_asks}
 use Rattle.tight.proofs.once_block.Goals as goal
 
 -- The rows without the line lead to those with it.
-pub power-weight-requires : goal.power-weight-requires
-power-weight-requires c = omega (arith, c.requires.line_lt, c.requires.lines_few)
-
 pub once-requires : goal.once-requires
 once-requires c =
     let a = c.args in
     once_asks a.k a.t.now c.requires.held a.x.line a.x.lowest a.x.highest a.x.hit c.power-weight.result c.requires c.power-weight.ensures
-
-pub shape_of-t : goal.shape_of-t
-shape_of-t c =
-    let a = c.args in
-    (c.once.ensures a.k.outline.lines a.x.line c.requires.held.sized.sets_is c.power-weight.ensures c.requires.line_lt).size
 
 pub returns : goal.returns
 returns c =

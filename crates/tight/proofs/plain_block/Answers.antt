@@ -12,8 +12,5 @@ each_row-requires c =
     let h = c.requires.1 in
     (c.requires.0, h.sized.few, rw h.sized.sets_is h.size, sets_fit c.args.k c.args.t.now h)
 
-pub shape_of-t : goal.shape_of-t
-shape_of-t c = (c.each_row.ensures c.args.k.outline.lines c.requires.1.sized.sets_is).size
-
 pub returns : goal.returns
 returns c = c.each_row.ensures c.args.k.outline.lines c.requires.1.sized.sets_is

@@ -5,9 +5,6 @@ use Prim.Native.Nat.{◌*◌}
 use Rattle.tight.proofs.size.Goals as goal
 
 -- The rows, each of a period.
-pub period-requires : goal.period-requires
-period-requires c = tt
-
 pub overflow_mul-result : goal.overflow_mul-result
 overflow_mul-result c = omega (arith, mul-le-mul_right c.period.result c.requires.few, c.period.ensures, c.requires.fit.most)
 

@@ -1,32 +1,26 @@
-use mathlib.Core.Path.{◌≡◌}
 use native.Mathlib.Omega.{arith}
+use mathlib.Core.Path.{◌≡◌}
+use Prim.Native.Nat.{◌<◌}
 use native.Mathlib.Numerals.{add-one}
-use Prim.Native.Nat.{ℕ, ◌+◌, ◌≤◌, ◌<◌}
+use Rattle.std.proofs.lemmas.List.{get_or-take, length-take-le}
 use Rattle.times.specs.Arrays.{table_of}
-use Rattle.times.proofs.Counts.{bit_le, reached_none, reached_more}
+use Rattle.times.proofs.Counts.{reached_none, reached_more}
 use Rattle.times.proofs.count.Goals as goal
 
--- Before each turn the places below o are counted: those without a time, and those that are reached.
--- one more is at most n
-room : (w b o n : ℕ) → w ≤ o → b ≤ 1 → o < n → n < 0x1_0000_0000_0000_0000 → w + b < 0x1_0000_0000_0000_0000
-room w b o n h g l k = omega arith
+pub loop-x-init : goal.loop-x-init
+loop-x-init c = (omega arith, omega (arith, reached_none (table_of c.args.n c.args.t.now)))
 
-pub loop-o-init : goal.loop-o-init
-loop-o-init c = (omega arith, omega arith, omega (arith, reached_none (table_of c.args.n c.args.t.now)))
-
-pub overflow_add-without : goal.overflow_add-without
-overflow_add-without c =
-    let l = c.loop-o in
-    record { fits = room l.without _ l.o c.args.n l.invariant.1 (bit_le c.args.n c.args.t.now c.requires.1 l.o c.loop-o-test.true) c.loop-o-test.true c.ranges.n.fits }
-
-pub loop-o-preserved : goal.loop-o-preserved
-loop-o-preserved c =
-    let l = c.loop-o in
-    let more = reached_more c.args.n c.args.t.now l.o l.without (omega arith) c.requires.1 l.invariant.2 in
-    (omega arith, omega (arith, more), rw add-one more)
+pub loop-x-preserved : goal.loop-x-preserved
+loop-x-preserved c =
+    let a = c.args in
+    let l = c.loop-x in
+    let low : l.x-index < a.n = omega (arith, length-take-le a.n a.t.now c.requires.0) in
+    let more = reached_more a.n a.t.now l.x-index l.without low c.requires.1 l.invariant.1 in
+    rw (get_or-take a.n a.t.now l.x-index 0 low) (omega (arith, more), rw add-one more)
 
 pub returns : goal.returns
 returns c =
-    let l = c.loop-o in
-    let all : l.o ≡ c.args.n = omega arith in
-    omega (arith, rw all at l.invariant.2)
+    let a = c.args in
+    let l = c.loop-x in
+    let all : l.x-index ≡ a.n = omega (arith, length-take-le a.n a.t.now c.requires.0) in
+    omega (arith, rw all at l.invariant.1)

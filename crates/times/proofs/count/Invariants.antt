@@ -1,11 +1,9 @@
 use mathlib.Core.Path.{◌≡◌}
-use Prim.Native.Nat.{◌+◌, ◌-◌, ◌≤◌}
+use Prim.Native.Nat.{◌+◌, ◌≤◌}
 use Rattle.runs.specs.Figures.{reached}
 use Rattle.times.specs.Arrays.{table_of}
 use Rattle.times.proofs.count.Given as goal
 
-abbrev pub invariant-loop-o : goal.invariant-loop-o
-invariant-loop-o l = (l.o ≤ l.n) × (l.without ≤ l.o) × (l.without + reached l.o (table_of l.n l.t) ≡ l.o)
-
-abbrev pub decreases-loop-o : goal.decreases-loop-o
-decreases-loop-o l = l.n - l.o
+-- Before each turn the places so far are counted: those without a time, and those that are reached.
+abbrev pub invariant-loop-x : goal.invariant-loop-x
+invariant-loop-x l = (l.without ≤ l.x-index) × (l.without + reached l.x-index (table_of l.n l.t) ≡ l.x-index)

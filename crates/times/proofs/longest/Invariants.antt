@@ -1,12 +1,8 @@
 use mathlib.Core.Path.{◌≡◌}
-use Prim.Native.Nat.{◌-◌, ◌≤◌}
 use Rattle.runs.specs.Figures.{longest_of}
 use Rattle.times.specs.Arrays.{time_of, table_of}
 use Rattle.times.proofs.longest.Given as goal
 
--- Before each turn `best` is the longest time of the entries below o.
-abbrev pub invariant-loop-o : goal.invariant-loop-o
-invariant-loop-o l = (l.o ≤ l.period) × (time_of l.best ≡ longest_of l.o (table_of l.period l.t))
-
-abbrev pub decreases-loop-o : goal.decreases-loop-o
-decreases-loop-o l = l.period - l.o
+-- Before each turn `best` is the longest time of the entries so far.
+abbrev pub invariant-loop-x : goal.invariant-loop-x
+invariant-loop-x l = time_of l.best ≡ longest_of l.x-index (table_of l.period l.x-items)

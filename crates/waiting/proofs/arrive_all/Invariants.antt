@@ -11,9 +11,9 @@ use Rattle.waiting.proofs.arrive_all.Given as goal
 -- for the durations that it has no room for.
 abbrev pub invariant-loop-gone : goal.invariant-loop-gone
 invariant-loop-gone l =
-    (l.gone ≤ l.b.period) × (length l.out ≡ 256) × (length l.pending ≡ 256) × (l.x ≡ (l.b.first + l.gone) % l.b.period) × Begins l.b.period (owns l.b) l.x × IsRun l.b.period (owns l.b) l.x l.len
-    × Waiting l.b.period (owns l.b) l.t l.x l.gone l.len (l.b.period - l.gone) l.lo l.hi l.run l.pending × LeftUp l.b.period (owns l.b) l.t l.b.first l.gone l.lo l.hi l.initial.out l.out
-    × Nth l.b.stretches l.i l.x l.len
+    (l.gone ≤ l.b.period) × (length l.out ≡ 256) × (length l.pending ≡ 256) × (l.x.at ≡ (l.b.first + l.gone) % l.b.period) × Begins l.b.period (owns l.b) l.x.at × IsRun l.b.period (owns l.b) l.x.at l.x.len
+    × Waiting l.b.period (owns l.b) l.t l.x.at l.gone l.x.len (l.b.period - l.gone) l.lo l.hi l.run l.pending × LeftUp l.b.period (owns l.b) l.t l.b.first l.gone l.lo l.hi l.initial.out l.out
+    × Nth l.b.stretches l.x.i l.x.at l.x.len
 
 abbrev pub decreases-loop-gone : goal.decreases-loop-gone
 decreases-loop-gone l = l.b.period - l.gone

@@ -1,4 +1,3 @@
-use mathlib.Core.Path.{refl}
 use lib.ListN.{length-set}
 use native.Mathlib.Omega.{arith}
 use Rattle.waiting.proofs.Pending.{waits_on}
@@ -7,7 +6,4 @@ use Rattle.waiting.proofs.wait_on.Goals as goal
 pub returns-then-over-hi : goal.returns-then-over-hi
 returns-then-over-hi c =
     let taken = c.if-over-hi.true in
-    (simp length-set (omega (arith, c.requires.1)), waits_on _ _ _ _ _ _ _ (omega (arith, taken, c.requires.0, c.requires.1)) c.larger.ensures c.larger-then-over-hi.ensures)
-
-pub returns-else-over-hi : goal.returns-else-over-hi
-returns-else-over-hi c = (c.requires.1, record { joins = λ l. absurd (omega (arith, c.if-over-hi.false)); others = λ e n. refl })
+    (simp length-set (omega (arith, c.requires.1)), waits_on _ _ _ _ _ _ _ (omega (arith, taken, c.requires.0, c.requires.1)) c.max.ensures c.max-then-over-hi.ensures)

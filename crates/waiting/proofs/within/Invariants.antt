@@ -8,8 +8,5 @@ use Rattle.waiting.proofs.within.Given as goal
 -- from `at`.
 abbrev pub invariant-loop-e : goal.invariant-loop-e
 invariant-loop-e l =
-    (l.lo ≤ l.e) × (l.e ≤ max l.lo (l.top + 1)) × (length l.pending ≡ 256) × (l.at < l.period) × (l.at ≡ (l.y + l.period - (l.gap + min (l.e - 1) l.top)) % l.period)
+    (l.e ≤ max l.lo (l.top + 1)) × (length l.pending ≡ 256) × (l.at < l.period) × (l.at ≡ (l.y + l.period - (l.gap + min (l.e - 1) l.top)) % l.period)
     × ComeLater l.period l.t l.y (l.gap + min (l.e - 1) l.top) l.rest l.best × Shorter l.period l.t l.y l.gap l.rest l.lo l.e l.initial.pending l.pending
-
-abbrev pub decreases-loop-e : goal.decreases-loop-e
-decreases-loop-e l = l.top + 1 - l.e

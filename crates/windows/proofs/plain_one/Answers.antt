@@ -1,7 +1,7 @@
 use borrow.Author.Count.{below_more}
-use mathlib.Core.Path.{◌≡◌, ◌∙◌, refl, sym, ap}
+use mathlib.Core.Path.{◌≡◌, ◌∙◌, ap}
 use Prim.Native.Nat.{ℕ, ◌+◌, ◌-◌, ◌%◌}
-use native.Mathlib.Nat.{not-suc-le-zero, mod-lt, mod-add-mod, zero-add}
+use native.Mathlib.Nat.{mod-lt, mod-add-mod}
 use native.Mathlib.Omega.{arith}
 use lib.ListN.{get_or, length-set}
 use lib.Seq.{get_or-set_same, get_or-set_other}
@@ -10,15 +10,9 @@ use Rattle.windows.proofs.Passes.{one_passed}
 use Rattle.windows.specs.Windows.{start}
 use Rattle.windows.proofs.plain_one.Goals as goal
 
-pub overflow_sub-j : goal.overflow_sub-j
-overflow_sub-j c = omega (arith, mod-lt c.args.d {m = c.args.period} (omega arith))
-
-pub loop-q-init : goal.loop-q-init
-loop-q-init c = (omega arith, mod-lt _ (omega arith), ap (λ (x : ℕ). x % c.args.period) (sym (zero-add _)), refl, (λ i h. absurd (not-suc-le-zero h)))
-
 pub later_by-requires : goal.later_by-requires
 unfolding Fits
-later_by-requires c = (omega arith, (λ n. omega (arith, c.requires.3 c.loop-q.j c.loop-q.invariant.1 n)))
+later_by-requires c = (omega arith, (λ n. omega (arith, c.requires.1.fits c.loop-q.j c.loop-q.invariant.0 n)))
 
 pub loop-q-preserved : goal.loop-q-preserved
 loop-q-preserved c =
@@ -26,14 +20,13 @@ loop-q-preserved c =
     let a = c.args in
     let p = a.period in
     let e : l.q + (p - a.d % p) + 1 ≡ l.q + 1 + (p - a.d % p) = omega arith in
-    let got : LaterOf (get_or a.t.now (start p a.d l.q) 0) a.d c.later_by.result = rw l.invariant.2 at c.later_by.ensures in (
-      omega arith,
+    let got : LaterOf (get_or a.t.now (start p a.d l.q) 0) a.d c.later_by.result = rw l.invariant.1 at c.later_by.ensures in (
       omega (arith, c.turn-j.ensures, mod-lt (l.j + 1) {m = p} (omega arith)),
-      c.turn-j.ensures ∙ ap (λ (x : ℕ). (x + 1) % p) l.invariant.2 ∙ mod-add-mod (l.q + (p - a.d % p)) p 1 ∙ ap (λ (x : ℕ). x % p) e,
+      c.turn-j.ensures ∙ ap (λ (x : ℕ). (x + 1) % p) l.invariant.1 ∙ mod-add-mod (l.q + (p - a.d % p)) p 1 ∙ ap (λ (x : ℕ). x % p) e,
       simp length-set (omega arith),
-      below_more _ _ (λ i h. rw (get_or-set_other l.out l.q i c.later_by.result 0 (λ z. omega arith)) (l.invariant.4 i h))
+      below_more _ _ (λ i h. rw (get_or-set_other l.out l.q i c.later_by.result 0 (λ z. omega arith)) (l.invariant.3 i h))
           (rw (get_or-set_same l.out l.q c.later_by.result 0 (omega arith)) got),
     )
 
 pub returns : goal.returns
-returns c = one_passed _ _ _ _ (omega arith) (λ i h. c.loop-q.invariant.4 i (omega arith))
+returns c = one_passed _ _ _ _ (omega arith) (λ i h. c.loop-q.invariant.3 i (omega arith))

@@ -7,10 +7,7 @@ use Rattle.windows.proofs.prefixes.Given as goal
 -- Before each turn `run` is the largest of the first i - 1 places, and the places below s + i are done.
 abbrev pub invariant-loop-i : goal.invariant-loop-i
 invariant-loop-i l =
-    (1 ≤ l.i) × (l.i ≤ l.stop) × (length l.w ≡ length l.initial.w) × (l.run ≡ top l.k l.e (l.i - 1))
+    (length l.w ≡ length l.initial.w) × (l.run ≡ top l.k l.e (l.i - 1))
     × ((a : ℕ) → l.s < a → a < l.s + l.i → get_or l.w a 0 ≡ max (get_or l.initial.w a 0) (top l.k l.e (a - l.s)))
     × ((a : ℕ) → a ≤ l.s → get_or l.w a 0 ≡ get_or l.initial.w a 0)
     × ((a : ℕ) → l.s + l.i ≤ a → get_or l.w a 0 ≡ get_or l.initial.w a 0)
-
-abbrev pub decreases-loop-i : goal.decreases-loop-i
-decreases-loop-i l = l.stop - l.i

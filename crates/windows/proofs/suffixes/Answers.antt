@@ -35,13 +35,8 @@ loop-j-preserved c =
       (λ a h e. split j a
           (λ g. get_or-set_other l.w (j - 1) a _ 0 (λ z. omega arith) ∙ v.4 a g e)
           (λ g. let at : a ≡ j - 1 = omega arith in
-          rw at (get_or-set_same l.w (j - 1) _ 0 (omega arith) ∙ c.larger.ensures
+          rw at (get_or-set_same l.w (j - 1) _ 0 (omega arith) ∙ c.max.ensures
           ∙ ap₂ max (v.3 (j - 1) (omega arith)) (ap (λ (x : ℕ). get_or l.w x 0) back ∙ v.4 j (omega arith) (omega arith))
           ∙ top_back _ j (s + n - j) (s + n - (j - 1)) (omega arith) (omega arith)))),
       (λ a h. get_or-set_other l.w (j - 1) a _ 0 (λ z. omega arith) ∙ v.5 a h),
     )
-
-pub returns : goal.returns
-returns c =
-    let v = c.loop-j.invariant in
-    record { size = omega arith; inside = λ a h l. v.4 a (omega arith) l; before = λ a h. v.3 a (omega arith); after = λ a h. v.5 a h }

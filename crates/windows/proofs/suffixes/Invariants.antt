@@ -11,6 +11,3 @@ invariant-loop-j l =
     × ((a : ℕ) → a < l.j → get_or l.w a 0 ≡ get_or l.initial.w a 0)
     × ((a : ℕ) → l.j ≤ a → a < l.s + l.n → get_or l.w a 0 ≡ top l.initial.w a (l.s + l.n - a))
     × ((a : ℕ) → l.s + l.n ≤ a → get_or l.w a 0 ≡ get_or l.initial.w a 0)
-
-abbrev pub decreases-loop-j : goal.decreases-loop-j
-decreases-loop-j l = l.j - l.s

@@ -1,5 +1,4 @@
 use mathlib.Core.Path.{refl, sym, ◌∙◌, ap}
-use native.Mathlib.Nat.{not-suc-le-zero}
 use Rattle.windows.specs.Windows.{top, Windowed}
 use Rattle.windows.proofs.Tops.{top_one, turn_done, turn_rest}
 use native.Mathlib.Omega.{arith}
@@ -11,12 +10,6 @@ returns-then-n-eq1 c =
     let a = c.args in
     (refl, (λ j h. c.requires.5 j (omega arith) ∙ sym (top_one a.k.now j) ∙ ap (top a.k.now j) (sym c.if-n-eq1.true)))
 
-pub loop-s-init : goal.loop-s-init
-loop-s-init c = (omega arith, refl, (λ a h. absurd (not-suc-le-zero h)), (λ a h l. c.requires.5 a l))
-
-pub prefixes-requires : goal.prefixes-requires
-prefixes-requires c = (omega arith, omega arith, omega arith)
-
 pub loop-s-preserved : goal.loop-s-preserved
 loop-s-preserved c =
     let a = c.args in
@@ -26,8 +19,8 @@ loop-s-preserved c =
     let pre = c.prefixes.ensures in (
       omega arith,
       omega (arith, suf.size, pre.size),
-      turn_done a.k.now l.w _ _ a.len a.n l.s _ v.2 v.3 (omega arith) (omega arith) c.least-stop.ensures suf pre,
-      turn_rest a.k.now l.w _ _ a.len a.n l.s _ v.2 v.3 (omega arith) (omega arith) c.least-stop.ensures suf pre,
+      turn_done a.k.now l.w _ _ a.len a.n l.s _ v.2 v.3 (omega arith) (omega arith) c.min-stop.ensures suf pre,
+      turn_rest a.k.now l.w _ _ a.len a.n l.s _ v.2 v.3 (omega arith) (omega arith) c.min-stop.ensures suf pre,
     )
 
 pub returns : goal.returns

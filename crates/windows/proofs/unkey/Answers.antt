@@ -1,16 +1,8 @@
-use native.Mathlib.Omega.{arith}
 use mathlib.Core.Path.{sym}
-use mathlib.Core.Logic.{⊎_elim}
 use Rattle.windows.proofs.Passes.{at_some, at_none}
 use Rattle.windows.proofs.unkey.Goals as goal
 
 -- The two branches are the two cases of `time_at`.
-pub overflow_add-result : goal.overflow_add-result
-overflow_add-result c = ⊎_elim (λ e. absurd (c.if-x-eq0.false e)) (λ h. omega arith) c.requires.0
-
-pub overflow_sub-result : goal.overflow_sub-result
-overflow_sub-result c = ⊎_elim (λ e. absurd (c.if-x-eq0.false e)) (λ h. omega arith) c.requires.0
-
 pub returns-then-x-eq0 : goal.returns-then-x-eq0
 returns-then-x-eq0 c = sym (at_none _ c.args.e c.if-x-eq0.true)
 

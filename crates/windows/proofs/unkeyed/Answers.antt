@@ -1,22 +1,16 @@
 use borrow.Author.Count.{below_more}
-use mathlib.Core.Path.{◌≡◌, ◌∙◌, refl, sym, ap}
+use mathlib.Core.Path.{◌≡◌, ◌∙◌, ap}
 use Prim.Native.Nat.{ℕ, ◌+◌, ◌-◌, ◌%◌}
-use native.Mathlib.Nat.{not-suc-le-zero, mod-lt, mod-add-mod, zero-add}
+use native.Mathlib.Nat.{mod-lt, mod-add-mod}
 use native.Mathlib.Omega.{arith}
 use lib.ListN.{length-set}
 use lib.Seq.{get_or-set_same, get_or-set_other}
 use Rattle.windows.specs.Windows.{Unkeyed, Room}
 use Rattle.windows.proofs.unkeyed.Goals as goal
 
-pub overflow_sub-j : goal.overflow_sub-j
-overflow_sub-j c = omega (arith, mod-lt c.args.hi {m = c.args.period} (omega arith))
-
-pub loop-q-init : goal.loop-q-init
-loop-q-init c = (omega arith, mod-lt _ (omega arith), ap (λ (x : ℕ). x % c.args.period) (sym (zero-add _)), refl, (λ i h. absurd (not-suc-le-zero h)))
-
 pub unkey-requires : goal.unkey-requires
 unfolding Room
-unkey-requires c = (c.requires.3 c.loop-q.j c.loop-q.invariant.1, omega arith)
+unkey-requires c = (c.requires.3 c.loop-q.j c.loop-q.invariant.0, omega arith)
 
 pub loop-q-preserved : goal.loop-q-preserved
 loop-q-preserved c =
@@ -24,14 +18,13 @@ loop-q-preserved c =
     let a = c.args in
     let p = a.period in
     let e : l.q + (p - a.hi % p) + 1 ≡ l.q + 1 + (p - a.hi % p) = omega arith in (
-      omega arith,
       omega (arith, c.turn-j.ensures, mod-lt (l.j + 1) {m = p} (omega arith)),
-      c.turn-j.ensures ∙ ap (λ (x : ℕ). (x + 1) % p) l.invariant.2 ∙ mod-add-mod (l.q + (p - a.hi % p)) p 1 ∙ ap (λ (x : ℕ). x % p) e,
+      c.turn-j.ensures ∙ ap (λ (x : ℕ). (x + 1) % p) l.invariant.1 ∙ mod-add-mod (l.q + (p - a.hi % p)) p 1 ∙ ap (λ (x : ℕ). x % p) e,
       simp length-set (omega arith),
-      below_more _ _ (λ i h. get_or-set_other l.out l.q i _ 0 (λ e. omega arith) ∙ l.invariant.4 i h)
-          (get_or-set_same l.out l.q _ 0 (omega arith) ∙ c.unkey.ensures ∙ rw l.invariant.2),
+      below_more _ _ (λ i h. get_or-set_other l.out l.q i _ 0 (λ e. omega arith) ∙ l.invariant.3 i h)
+          (get_or-set_same l.out l.q _ 0 (omega arith) ∙ c.unkey.ensures ∙ rw l.invariant.1),
     )
 
 pub returns : goal.returns
 unfolding Unkeyed
-returns c = λ i h. c.loop-q.invariant.4 i (omega arith)
+returns c = λ i h. c.loop-q.invariant.3 i (omega arith)

@@ -1,5 +1,5 @@
 use mathlib.Core.Path.{◌≡◌}
-use Prim.Native.Nat.{ℕ, ◌+◌, ◌-◌, ◌≤◌, ◌<◌}
+use Prim.Native.Nat.{ℕ, ◌+◌, ◌<◌}
 use lib.ListN.{length, get_or}
 use Rattle.windows.specs.Windows.{time_at, start}
 use Rattle.windows.proofs.unkeyed.Given as goal
@@ -7,8 +7,5 @@ use Rattle.windows.proofs.unkeyed.Given as goal
 -- Before each turn the places below q have their times, and j is where the window that ends at q begins.
 abbrev pub invariant-loop-q : goal.invariant-loop-q
 invariant-loop-q l =
-    (l.q ≤ l.period) × (l.j < l.period) × (l.j ≡ start l.period l.hi l.q) × (length l.out ≡ 256)
+    (l.j < l.period) × (l.j ≡ start l.period l.hi l.q) × (length l.out ≡ 256)
     × ((i : ℕ) → i < l.q → get_or l.out i 0 ≡ time_at (get_or l.w (start l.period l.hi i) 0) (start l.period l.hi i + l.hi))
-
-abbrev pub decreases-loop-q : goal.decreases-loop-q
-decreases-loop-q l = l.period - l.q

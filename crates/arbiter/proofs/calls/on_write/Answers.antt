@@ -7,9 +7,8 @@ use Prim.Native.Nat.{ℕ, ◌<◌}
 use Rattle.runs.proofs.Cases.{either}
 use Rattle.device.specs.declared.Arbiter.{Arbiter}
 use Rattle.device.specs.Device.{usable, writable}
-use Rattle.arbiter.specs.Calls.{outcome}
 use Rattle.device.proofs.Tests.{and_right}
-use Rattle.device.proofs.Formed.{formed_true, usable_formed, usable_lt}
+use Rattle.device.proofs.Formed.{formed_true, usable_formed}
 use Rattle.arbiter.proofs.calls.on_write.Goals as goal
 
 -- 15 is judged first: the state, the core and the value; what may be written is at most a slot, so it fits a byte.
@@ -21,29 +20,8 @@ a_byte a p n v u w =
     (λ z. omega (arith, l, leb-true v a.slot (and_right (leb 1 v) _ (rw z at w))))
     (λ z. omega (arith, leb-true v 1 (and_right (eqb n 2) _ (rw z at w))))
 
-pub returns-then-not-core_ok : goal.returns-then-not-core_ok
-unfolding outcome
-returns-then-not-core_ok c = rw (sym c.core_ok.ensures ∙ c.if-not-core_ok.true) c.refuse.ensures
-
-pub returns-then-not-value_ok : goal.returns-then-not-value_ok
-unfolding outcome
-returns-then-not-value_ok c =
-    rw (sym c.core_ok.ensures ∙ c.if-not-core_ok.false, sym c.value_ok.ensures ∙ c.if-not-value_ok.true)
-    c.refuse-then-not-value_ok.ensures
-
 pub overflow_cast-value : goal.overflow_cast-value
 overflow_cast-value c =
     let a = c.args in
     let u = sym c.core_ok.ensures ∙ c.if-not-core_ok.false in
     omega (arith, a_byte a.s a.core a.register a.value u (sym c.value_ok.ensures ∙ c.if-not-value_ok.false))
-
-pub store-requires : goal.store-requires
-store-requires c =
-    let a = c.args in
-    usable_lt a.s a.core (sym c.core_ok.ensures ∙ c.if-not-core_ok.false)
-
-pub returns : goal.returns
-unfolding outcome
-returns c =
-    rw (sym c.core_ok.ensures ∙ c.if-not-core_ok.false, sym c.value_ok.ensures ∙ c.if-not-value_ok.false)
-    c.store.ensures

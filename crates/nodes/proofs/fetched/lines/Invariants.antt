@@ -1,11 +1,7 @@
 use mathlib.Core.Path.{◌≡◌}
-use Prim.Native.Nat.{◌-◌, ◌≤◌}
 use Rattle.nodes.specs.Nodes.{lines_of}
 use Rattle.nodes.proofs.fetched.lines.Given as goal
 
 -- The invariant: the most so far is that of the nodes before n.
 abbrev pub invariant-loop-n : goal.invariant-loop-n
-invariant-loop-n l = (l.n ≤ l.nodes) × (l.most ≡ lines_of l.image l.n)
-
-abbrev pub decreases-loop-n : goal.decreases-loop-n
-decreases-loop-n l = l.nodes - l.n
+invariant-loop-n l = l.most ≡ lines_of l.image l.n

@@ -1,28 +1,16 @@
-use mathlib.Core.Path.{◌≡◌}
+use mathlib.Core.Path.{◌≡◌, refl, ◌∙◌, ap}
+use Prim.Native.Nat.{ℕ, zero, suc, ◌*◌, ◌^◌}
 use native.Mathlib.Omega.{arith}
+use Rattle.std.proofs.Math.Nat.{pow-succ'}
+use Rattle.std.proofs.lemmas.Nat.{one_shl}
 use Rattle.runs.specs.Lines.{power}
 use Rattle.nodes.proofs.fetched.power.Goals as goal
 
--- 2 to each of the numbers 0 to 4.
-pub returns-in-0 : goal.returns-in-0
+-- 2 to the n, in the definition's words
+two_to : (n : ℕ) → 2 ^ n ≡ power n
 unfolding power
-returns-in-0 c = rw c.in-0.is
+two_to zero = refl
+two_to (suc n) = pow-succ' 2 n ∙ ap (λ (m : ℕ). 2 * m) (two_to n)
 
-pub returns-in-1 : goal.returns-in-1
-unfolding power
-returns-in-1 c = rw c.in-1.is
-
-pub returns-in-2 : goal.returns-in-2
-unfolding power
-returns-in-2 c = rw c.in-2.is
-
-pub returns-in-3 : goal.returns-in-3
-unfolding power
-returns-in-3 c = rw c.in-3.is
-
-pub returns-in_default : goal.returns-in_default
-unfolding power
-returns-in_default c =
-    let r = c.in_default.in_default-own.rest in
-    let e : c.args.n ≡ 4 = omega (arith, c.requires, r.0.0.0.1, r.0.0.1, r.0.1, r.1) in
-    rw e
+pub returns : goal.returns
+returns c = one_shl c.args.n 64 (omega arith) ∙ two_to c.args.n

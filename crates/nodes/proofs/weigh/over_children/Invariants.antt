@@ -8,9 +8,6 @@ use Rattle.nodes.proofs.weigh.over_children.Given as goal
 -- up to the caps.
 abbrev pub invariant-loop-i : goal.invariant-loop-i
 invariant-loop-i l =
-    (l.i ≤ l.count) × (l.best ≤ 25) × (l.sum ≤ 100001 * l.i)
-    × (max l.best (min 25 (deepest (child_trees l.image (l.place + 2 * l.i) (l.count - l.i)))) ≡ min 25 (deepest (child_trees l.image l.place l.count)))
-    × (min 100001 (l.sum + visits_all (child_trees l.image (l.place + 2 * l.i) (l.count - l.i))) ≡ min 100001 (visits_all (child_trees l.image l.place l.count)))
-
-abbrev pub decreases-loop-i : goal.decreases-loop-i
-decreases-loop-i l = l.count - l.i
+    (l.best ≤ 25) × (l.sum ≤ 100001 * l.i)
+    × (max l.best (min 25 (deepest (child_trees l.image (l.c.place + 2 * l.i) (l.c.count - l.i)))) ≡ min 25 (deepest (child_trees l.image l.c.place l.c.count)))
+    × (min 100001 (l.sum + visits_all (child_trees l.image (l.c.place + 2 * l.i) (l.c.count - l.i))) ≡ min 100001 (visits_all (child_trees l.image l.c.place l.c.count)))
