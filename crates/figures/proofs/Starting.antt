@@ -133,7 +133,7 @@ module _ (s : List ℕ) (w : Walk) (places : List ℕ) (ok : Walkable s w places
     pub listed_times : (t : List ℕ) → Started starts 256 t → Started (starts_of s) w.bus.period t
     listed_times t e o l = rw is at (e o (omega (arith, ok.fit.most)))
 
-    low : (j : ℕ) → j < length starts → get_or starts j 0 < w.bus.period
+    pub low : (j : ℕ) → j < length starts → get_or starts j 0 < w.bus.period
     low j l =
         let p = body_at s 1 in
         let n = length_at s 1 in

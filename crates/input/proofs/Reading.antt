@@ -1,18 +1,39 @@
 -- Laws of specs/Reading: the input after a read, by what it answered, and that what is held grows within the buffer.
-use mathlib.Core.Path.{◌≡◌, refl, sym}
+use mathlib.Core.Path.{◌≡◌, refl, sym, subst}
 use mathlib.Core.Bool.{Bool, true, false, cond}
 use mathlib.Core.List.{List}
 use Prim.Native.Nat.{ℕ, zero, suc, ◌+◌, ◌-◌, ◌≤◌, ◌<◌}
 use native.Mathlib.Nat.{not-suc-le-zero}
 use native.Mathlib.Omega.{arith}
-use lib.Dec.{ltb}
+use lib.Dec.{T, ltb}
+use lib.IntN.{ℤ, pos, negsuc, nat_abs}
 use lib.ListN.{length}
 use lib.Seq.{length-take-le}
+use lib.Signed.{lt_z, non_neg}
 use borrow.Author.Tests.{ltb-true}
 use Rattle.std.specs.Prelude.{Result, Ok, Err, IfOk}
 use Rattle.std.specs.declared.ops.ControlFlow.{ControlFlow}
 use Rattle.std.specs.declared.ops.ControlFlow.TheVariants.{Continue, Break}
 use Rattle.input.specs.Reading.{full_or_open, after_read, Held}
+
+-- ---- answers of a read as numbers, below 0 where it failed, which std's `read` gives as an error
+
+-- what a read into a room of n bytes may answer: -1, or how many bytes it read, at most n
+abbrev pub Moved : ℕ → ℤ → Type 0
+Moved n (pos k) = k ≤ n
+Moved n (negsuc k) = k ≡ 0
+
+-- an answer that is not below 0
+pub not_negative : (z : ℤ) → lt_z z (pos 0) ≡ false → T (non_neg z)
+not_negative (pos k) h = tt
+not_negative (negsuc k) h = subst T h tt
+
+-- an answer within the room is no more than that
+pub moved : (room : ℕ) (z : ℤ) → T (non_neg z) → Moved room z → nat_abs z ≤ room
+moved room (pos k) h m = m
+moved room (negsuc k) h m = absurd h
+
+-- ---- the input after a read
 
 -- how many bytes are there, whether more may come or not
 abbrev pub bytes_of : ControlFlow ℕ ℕ → ℕ

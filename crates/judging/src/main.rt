@@ -9,17 +9,24 @@ use image::judge;
 use image_bytes::word;
 use std::io::{Read, Write};
 
-// Writes the line of one image. A write that fails is not told: the lines are compared with those that are expected.
+// Writes the line of one image, part by part. A write that fails is not told, and the parts behind it are written all the same: the lines are
+// compared with those that are expected.
 fn tell<W: Write>(case: u64, image: &[u8], output: &mut W) {
-    let _ = match judge(image).verdict {
-        Ok(_) => writeln!(output, "{case} accepted"),
-        Err(e) => writeln!(
-            output,
-            "{case} refused {} {}",
-            u64::from(e.refusal),
-            e.place
-        ),
-    };
+    let _ = write!(output, "{case}");
+    match judge(image).verdict {
+        Ok(_) => put(b" accepted\n", output),
+        Err(e) => {
+            put(b" refused ", output);
+            let _ = write!(output, "{}", u64::from(e.refusal));
+            put(b" ", output);
+            let _ = write!(output, "{}", e.place);
+            put(b"\n", output);
+        }
+    }
+}
+
+fn put<W: Write>(bytes: &[u8], output: &mut W) {
+    let _ = output.write_all(bytes);
 }
 
 // Reads until the buffer is full, the input ends or a read fails, and answers how many bytes of it were read: `read_exact` does not tell that, and
