@@ -35,8 +35,8 @@ fn size(table: &[u64]) -> Option<usize>
     Some(n)
 }
 
-// Are all of the task numbers below i? (Tried as `all` of the slice: a table whose tasks wait for none then takes up to 1.4 times the time, since
-// only the loop by number is unrolled.)
+// Are all of the task numbers below i? (Tried as `all` of the slice: a table whose tasks wait for none then takes 1.2 to 1.6 times the time. The
+// loop by number is unrolled, the other is not.)
 fn all_earlier(waits: &[u64], i: usize) -> bool
     ensures { IsTrue result ↔ EachIndex waits.now (λ k. get_or waits.now k 0 < i) }
 {
